@@ -1,0 +1,91 @@
+-- What a dispatched matrix means, each promise as one theorem over the definitions of `rules` that the contracts cite. Assumes nothing.
+-- `Slots` says only that a struct has as many slots as its arrays.
+use Prim.Native.Nat.{ℕ, _*_, _≤_, _<_}
+use mathlib.Core.Bool.{true, false, or-self}
+use mathlib.Core.List.{List}
+use mathlib.Core.Logic.{_↔_}
+use mathlib.Core.Option.{some}
+use mathlib.Core.Path.{_≡_, sym, _∙_}
+use lib.ListN.{getD, length, take}
+use Rattle.lists.specs.Lists.{all}
+use Rattle.rules.proofs.Depths.{dispatch-depth, rawOf-depth}
+use Rattle.rules.proofs.Disjointed.{overlap-is}
+use Rattle.rules.proofs.Evals.{dispatch-once}
+use Rattle.rules.proofs.Givens.{sized-means-shaped, sized-unrefused}
+use Rattle.rules.proofs.Longer.{longer-answer, tree-at-front}
+use Rattle.rules.proofs.Prefixes.{prefix-good, prefix-most}
+use Rattle.rules.proofs.Promised.{dispatched, few-levels, output-is, output-stays}
+use Rattle.rules.proofs.Stepped.{steps-are}
+use Rattle.rules.specs.Answers.{dispatchAnswer, dispatchStore, evaluateAnswer, oneHotAfter, oneHotAnswer}
+use Rattle.rules.specs.Bounds.{columns-max, mux-first, node-run}
+use Rattle.rules.specs.Dispatch.{dispatch, distinct, rawOf}
+use Rattle.rules.specs.Emit.{TwoUpdated, Update}
+use Rattle.rules.specs.Evaluate.{Filling, tritsOf}
+use Rattle.rules.specs.Given.{Given, Slots, matrixTable, view}
+use Rattle.rules.specs.Matrix.{addEnable}
+use Rattle.rules.specs.Meaning.{Knows, Setting, fits, owes, value, wins}
+use Rattle.rules.specs.Normalize.{normalize}
+use Rattle.rules.specs.Prefix.{disjointAll, prefix}
+use Rattle.rules.specs.Refusals.{disjointTable}
+use Rattle.rules.specs.Refuse.{FORM, NET, OVERLAP, WIDTH, applies, done, refusal}
+use Rattle.rules.specs.Steps.{steps}
+use Rattle.rules.specs.Store.{treeAt}
+use Rattle.rules.specs.Tree.{Once, Tree, depth}
+use Rattle.rules.specs.Trits.{isTrit, isX}
+
+-- A matrix g with the enable e, dispatched into a store and answered.
+module _ (e : ℕ) (g : Given) (slots : Slots g) (store : List ℕ) (root n : ℕ) (answered : dispatchAnswer e g store ≡ done (root, n)) where
+  -- B5: its tree stands in the store, well formed, at the root that was returned
+  pub tree-well-formed : treeAt (dispatchStore e g store) root ≡ some (dispatch e (view g))
+  tree-well-formed = dispatched e g store root n slots answered .tree
+
+  -- Outputs emitted one-hot from that store into a table, and answered: the nets of the value, and how many entries are then in use.
+  module _ (outs : List ℕ) (count : ℕ) (table nets : List ℕ) (used : ℕ) (emitted : oneHotAnswer (dispatchStore e g store) root outs count table ≡ done (nets, used)) where
+    -- C1: at trits that are the bits of a setting at every cell net of matrix and enable, each output evaluates to 1 exactly when the first
+    -- matching row names it, and to 0 otherwise
+    pub first-match : (ts : List ℕ) → all isTrit (take mux-first ts) ≡ true → (σ : Setting) → Knows (tritsOf ts) σ (addEnable e (view g)) → (i : ℕ) → i < length outs
+        → evaluateAnswer used (oneHotAfter (dispatchStore e g store) root outs count table) ts (getD nets i 0) ≡ done (owes σ e (view g) (getD outs i 0))
+    first-match ts k σ w i h = output-is e g slots store root n answered outs count table nets used emitted ts σ k w i h
+
+    -- C3: at any trits, an output that evaluates to 0 or 1 evaluates to that bit at every filling
+    pub known-stays : (ts us : List ℕ) → all isTrit (take mux-first ts) ≡ true → Filling ts us → (i b : ℕ) → i < length outs
+        → evaluateAnswer used (oneHotAfter (dispatchStore e g store) root outs count table) ts (getD nets i 0) ≡ done b → (b ≡ 2 → ⊥)
+        → evaluateAnswer used (oneHotAfter (dispatchStore e g store) root outs count table) us (getD nets i 0) ≡ done b
+    known-stays = output-stays e g slots store root n answered outs count table nets used emitted
+
+  -- C2: so dispatch is at most 17 deep: its recursion's tree, before equal arms are one, has a path of at most 16 tests
+  pub few-tests : depth (rawOf (addEnable e (view g))) ≤ columns-max
+  few-tests = few-levels e g store root n slots answered
+
+  -- C4: any longer store gives the same answer and the same tree
+  pub longer-store : (longer : List ℕ) → length store ≤ length longer
+      → (dispatchAnswer e g longer ≡ done (root, n)) × (take (node-run * n) (dispatchStore e g longer) ≡ take (node-run * n) (dispatchStore e g store))
+  longer-store longer l =
+      let a = longer-answer e g store longer root n slots l answered in
+      (a, tree-at-front e g longer root n slots a ∙ sym (tree-at-front e g store root n slots answered))
+
+  -- B8: where neither 12 nor a lower number applies, OVERLAP is given exactly when some setting's first matching row names two nets with updates
+  pub overlap-means : (us : List Update) (d : List ℕ) (count : ℕ) (table : List ℕ)
+      → applies FORM (disjointTable (dispatchStore e g store) root us d count table) ≡ false
+      → applies NET (disjointTable (dispatchStore e g store) root us d count table) ≡ false
+      → applies WIDTH (disjointTable (dispatchStore e g store) root us d count table) ≡ false
+      → (refusal (disjointTable (dispatchStore e g store) root us d count table) ≡ OVERLAP) ↔ ((σ : Setting) × TwoUpdated us (wins σ e (view g)))
+  overlap-means = overlap-is e g slots store root n answered
+
+-- C2: no path of a dispatched tree tests a net twice, and none has more tests than matrix and enable have distinct cell nets; nor has the recursion
+pub tests-once : (e : ℕ) (g : Given)
+    → Once (dispatch e (view g)) × (depth (dispatch e (view g)) ≤ depth (rawOf (addEnable e (view g)))) × (depth (rawOf (addEnable e (view g))) ≤ distinct (addEnable e (view g) .nets))
+tests-once e g = (dispatch-once e (view g), dispatch-depth e (view g), rawOf-depth (addEnable e (view g)))
+
+-- C1: a constant X matches only don't-cares
+pub x-matches : (σ : Setting) (mask : ℕ) → fits mask (value σ 2) ≡ isX mask
+x-matches σ mask = or-self (isX mask)
+
+-- B2: the short definition of normalize is 01's own words, of every matrix that is not refused
+pub normalize-is : (g : Given) → Slots g → refusal (matrixTable g) ≡ 0 → steps (view g) ≡ normalize (view g)
+normalize-is g s h = steps-are (view g) (sized-means-shaped (view g) (sized-unrefused g s h))
+
+-- B9: the disjoint prefix is disjoint, and no longer one is
+pub prefix-longest : (outs : List ℕ) (t : Tree) (es : List ℕ)
+    → (disjointAll outs t (take (prefix outs t es) es) ≡ true) × ((k : ℕ) → k ≤ length es → disjointAll outs t (take k es) ≡ true → k ≤ prefix outs t es)
+prefix-longest outs t es = (prefix-good outs t es, prefix-most outs t es)

@@ -1,0 +1,5 @@
+pub mod Bools
+pub mod Keep
+pub mod Lists
+pub mod Runs
+pub mod Vec

@@ -1,0 +1,67 @@
+use borrow.Author.Needs.{needs}
+use lib.ListN.{length, take}
+use lib.Seq.{slice}
+use mathlib.Core.Path.{_≡_, sym, _∙_}
+use native.Mathlib.Omega.{arith}
+use Prim.Native.Nat.{_+_, _-_, _≤_}
+use Rattle.rows.proofs.inner.first_of.Statement.{statement}
+use Rattle.rows.proofs.inner.first_of.Tie as tie
+use Rattle.rows.proofs.Laws.{place-end, place-more, place-stop}
+use Rattle.rules.specs.Bounds.{columns-max}
+use Rattle.rules.specs.Steps.{place}
+
+abbrev Inv-loop : tie.InvT-loop
+Inv-loop n x value i₀ i = (i ≤ n) × (i + place x (slice i n value) ≡ place x (take n value))
+
+abbrev μ-loop : tie.MeasureT-loop
+μ-loop n x value i₀ i = n - i
+
+loop-holds : tie.Need-loop-holds Inv-loop μ-loop
+loop-holds c = search needs
+
+mul-if1 : tie.Need-mul-if1 Inv-loop μ-loop
+mul-if1 c = search needs
+
+array-read-if1 : tie.Need-array-read-if1 Inv-loop μ-loop
+array-read-if1 c = search needs
+
+returns : tie.Need-returns Inv-loop μ-loop
+returns c =
+    let at = c .before .before in
+    let a = at .before .args in
+    let k : length (a .t1) ≡ columns-max = search needs in
+    sym (place-stop (a .x) (a .t1) (at .loop .i) (a .n) (omega arith) (omega arith) (c .if1 .taken)) ∙ at .loop .inv .1
+
+add-i : tie.Need-add-i Inv-loop μ-loop
+add-i c = search needs
+
+loop-less : tie.Need-loop-less Inv-loop μ-loop
+loop-less c = search needs
+
+loop-again : tie.Need-loop-again Inv-loop μ-loop
+loop-again c =
+    let at = c .before .before in
+    let a = at .before .args in
+    let k : length (a .t1) ≡ columns-max = search needs in
+    (omega arith, sym (place-more (a .x) (a .t1) (at .loop .i) (a .n) (omega arith) (omega arith) (c .if1 .left)) ∙ at .loop .inv .1)
+
+returns-2 : tie.Need-returns-2 Inv-loop μ-loop
+returns-2 c =
+    let at = c .before in
+    let a = at .before .args in
+    sym (place-end (a .x) (a .t1) (at .loop .i) (a .n) (omega arith) (omega arith)) ∙ at .loop .inv .1
+
+pub first-of-spec : {M : Type 1} → statement M
+first-of-spec =
+    tie.close
+    (tie.spec
+    Inv-loop
+    μ-loop
+    loop-holds
+    mul-if1
+    array-read-if1
+    returns
+    add-i
+    loop-less
+    loop-again
+    returns-2)

@@ -1,0 +1,4 @@
+pub mod Ascents
+pub mod Inserts
+pub mod Laws
+pub mod Unions

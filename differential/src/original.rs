@@ -1,0 +1,15 @@
+//! The original's pass as it stands, and probes among its private items.
+
+#![allow(clippy::all)]
+
+include!(concat!(env!("OUT_DIR"), "/decision.rs"));
+
+#[warn(clippy::all)]
+mod pass;
+#[warn(clippy::all)]
+mod probe;
+
+pub use pass::{Gathered, chains, gathered, prefix};
+pub use probe::{
+    Opened, assume, disjoint, enabled, merge, normalize, normalized, one_hot, outputs, print_matrix, print_tree, tree,
+};
