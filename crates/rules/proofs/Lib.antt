@@ -8,6 +8,7 @@ pub mod Disjointed
 pub mod Enables
 pub mod Entries
 pub mod Evals
+pub mod Falls
 pub mod Filled
 pub mod Fuels
 pub mod Givens
