@@ -12,20 +12,25 @@ use Rattle.rules.proofs.Depths.{dispatch-depth, rawOf-depth}
 use Rattle.rules.proofs.Disjointed.{overlap-is}
 use Rattle.rules.proofs.Evals.{dispatch-once}
 use Rattle.rules.proofs.Givens.{sized-means-shaped, sized-unrefused}
+use Rattle.rules.proofs.Goods.{good-spread, good-view}
 use Rattle.rules.proofs.Longer.{longer-answer, tree-at-front}
+use Rattle.rules.proofs.Longest.{fullest, longest, printed-length, text-max, text-max-is}
 use Rattle.rules.proofs.Prefixes.{prefix-good, prefix-most}
 use Rattle.rules.proofs.Promised.{dispatched, few-levels, output-is, output-stays}
+use Rattle.rules.proofs.Reader.{read-is, read-printed}
 use Rattle.rules.proofs.Stepped.{steps-are}
 use Rattle.rules.specs.Answers.{dispatchAnswer, dispatchStore, evaluateAnswer, oneHotAfter, oneHotAnswer}
 use Rattle.rules.specs.Bounds.{columns-max, mux-first, node-run}
 use Rattle.rules.specs.Dispatch.{dispatch, distinct, rawOf}
 use Rattle.rules.specs.Emit.{TwoUpdated, Update}
 use Rattle.rules.specs.Evaluate.{Filling, tritsOf}
-use Rattle.rules.specs.Given.{Given, Slots, matrixTable, view}
-use Rattle.rules.specs.Matrix.{addEnable}
+use Rattle.rules.specs.Given.{Given, Slots, good, matrixTable, spread, view}
+use Rattle.rules.specs.Matrix.{Matrix, addEnable}
 use Rattle.rules.specs.Meaning.{Knows, Setting, fits, owes, value, wins}
 use Rattle.rules.specs.Normalize.{normalize}
 use Rattle.rules.specs.Prefix.{disjointAll, prefix}
+use Rattle.rules.specs.Print.{printed}
+use Rattle.rules.specs.Read.{ReadIs, read, whole}
 use Rattle.rules.specs.Refusals.{disjointTable}
 use Rattle.rules.specs.Refuse.{FORM, NET, OVERLAP, WIDTH, applies, done, refusal}
 use Rattle.rules.specs.Steps.{steps}
@@ -89,3 +94,18 @@ normalize-is g s h = steps-are (view g) (sized-means-shaped (view g) (sized-unre
 pub prefix-longest : (outs : List ℕ) (t : Tree) (es : List ℕ)
     → (disjointAll outs t (take (prefix outs t es) es) ≡ true) × ((k : ℕ) → k ≤ length es → disjointAll outs t (take k es) ≡ true → k ≤ prefix outs t es)
 prefix-longest outs t es = (prefix-good outs t es, prefix-most outs t es)
+
+-- B11: no printed matrix has more bytes than the bounds allow, 4,773, and one has exactly that
+pub longest-text : ((m : Matrix) → good m ≡ true → length (printed m) ≤ text-max) × (text-max ≡ 4773) × (length (printed fullest) ≡ text-max) × (good fullest ≡ true)
+longest-text = (printed-length, text-max-is, longest .0, longest .1)
+
+-- B12: printed matrices read back to themselves; whatever is read prints back to the text, and LINE is the first line that no printed matrix with the same earlier lines has
+pub reads-back : (m : Matrix) → good m ≡ true → read (printed m) ≡ whole m
+reads-back = read-printed
+
+pub reads-nothing-else : (s : List ℕ) → ReadIs s (read s)
+reads-nothing-else = read-is
+
+-- and what is printed is what is accepted
+pub good-is-accepted : ((g : Given) → Slots g → refusal (matrixTable g) ≡ 0 → good (view g) ≡ true) × ((m : Matrix) → good m ≡ true → refusal (matrixTable (spread m)) ≡ 0)
+good-is-accepted = (good-view, good-spread)

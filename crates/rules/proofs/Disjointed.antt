@@ -11,10 +11,11 @@ use Rattle.lists.specs.Bools.{and-right, by-bool}
 use Rattle.lists.specs.Lists.{all}
 use Rattle.rules.proofs.Evals.{dispatch-eval, dispatch-once}
 use Rattle.rules.proofs.Leafs.{dispatch-leaves}
-use Rattle.rules.proofs.Overlaps.{ascends-is, overlap-two, two-overlap}
+use Rattle.rules.proofs.Overlaps.{overlap-two, two-overlap}
 use Rattle.rules.proofs.Picks.{Silent, first-given, given-applies}
 use Rattle.rules.proofs.Promised.{Dispatched, dispatched}
 use Rattle.rules.proofs.Reach.{reached-some, some-reached}
+use Rattle.rules.proofs.Sets.{ascends-says}
 use Rattle.rules.proofs.Tested.{dispatch-cells}
 use Rattle.rules.specs.Answers.{dispatchAnswer, dispatchStore}
 use Rattle.rules.specs.Bounds.{rules-max}
@@ -38,7 +39,7 @@ leaf-reached P v (node t z o) h =
     by-bool (v t) (λ p. rw p b) (λ p. rw p a)
 
 fine-ascends : (rs : List ℕ) → fineLeaf rs ≡ true → Ascends rs
-fine-ascends rs h = ascends-is rs (and-right (all isName rs) (ascends rs) (and-right (leb (length rs) rules-max) (all isName rs && ascends rs) h))
+fine-ascends rs h = ascends-says rs (and-right (all isName rs) (ascends rs) (and-right (leb (length rs) rules-max) (all isName rs && ascends rs) h))
 
 module _ (e : ℕ) (g : Given) (slots : Slots g) (store : List ℕ) (root n : ℕ) (given : dispatchAnswer e g store ≡ done (root, n)) where
   abbrev tree : Tree

@@ -4,6 +4,7 @@ pub mod Answers
 pub mod Assumes
 pub mod Columns
 pub mod Depths
+pub mod Digits
 pub mod Disjointed
 pub mod Enables
 pub mod Entries
@@ -15,7 +16,9 @@ pub mod Givens
 pub mod Goods
 pub mod Known
 pub mod Leafs
+pub mod Lines
 pub mod Longer
+pub mod Longest
 pub mod Lowers
 pub mod Masks
 pub mod Merges
@@ -27,6 +30,7 @@ pub mod Places
 pub mod Prefixes
 pub mod Promised
 pub mod Reach
+pub mod Reader
 pub mod Rows
 pub mod Sets
 pub mod Stepped
@@ -35,3 +39,4 @@ pub mod Tables
 pub mod Tested
 pub mod Trees
 pub mod Walks
+pub mod Words

@@ -7,7 +7,7 @@ use mathlib.Core.Option.{Option, none, some}
 use lib.Dec.{eqb}
 use borrow.Author.Tests.{eqb-true, eq-eqb}
 use Rattle.lists.specs.Bools.{and-both, and-left, and-right, by-bool, contra, or-cases, or-left, or-right}
-use Rattle.lists.specs.Lists.{mem, same}
+use Rattle.lists.specs.Lists.{mem, same, same-true}
 use Rattle.rules.proofs.Masks.{fits-X, isX-not, not-isX}
 use Rattle.rules.proofs.Rows.{Consts, match-sound, row-moved, wanted-mem}
 use Rattle.rules.specs.Matrix.{Matrix, Row, allX}
@@ -15,16 +15,6 @@ use Rattle.rules.specs.Meaning.{Setting, firstMatch, firstRow, fits, mat
 use Rattle.rules.specs.Nets.{isCell}
 use Rattle.rules.specs.Normalize.{again, asked, columns, keep, kept, moved, normalize, sound, stay, wanted}
 use Rattle.rules.specs.Trits.{isX}
-
-pub same-true : (xs ys : List ℕ) → same xs ys ≡ true → xs ≡ ys
-unfolding same
-same-true [] [] e = refl
-same-true [] (y ∷ ys) e = absurd (false≢true e)
-same-true (x ∷ xs) [] e = absurd (false≢true e)
-same-true (x ∷ xs) (y ∷ ys) e =
-    let p : x ≡ y = eqb-true x y (and-left (eqb x y) (same xs ys) e) in
-    let q : xs ≡ ys = same-true xs ys (and-right (eqb x y) (same xs ys) e) in
-    cc
 
 -- all X matches anything
 pub allX-matches : (f : ℕ → ℕ) (ns ms : List ℕ) → allX ms ≡ true → matches f ns ms ≡ true

@@ -4,36 +4,13 @@ use mathlib.Core.Bool.{true}
 use mathlib.Core.List.{List, [], _∷_}
 use mathlib.Core.Path.{_≡_, refl, sym, ap, _∙_, subst}
 use native.Mathlib.Omega.{arith}
-use borrow.Author.Tests.{eq-eqb, eqb-true, le-leb, leb-true, ltb-true}
-use lib.Dec.{eqb, ltb}
-use Rattle.lists.specs.Bools.{and-left, and-right, by-bool, clash, or-cases, or-right}
+use borrow.Author.Tests.{eq-eqb, eqb-true, le-leb, leb-true}
+use lib.Dec.{eqb}
+use Rattle.lists.specs.Bools.{by-bool, clash, or-cases, or-right}
 use Rattle.lists.specs.Lists.{mem}
 use Rattle.rules.specs.Emit.{TwoUpdated, Update, isSome, overlap, updateFor, updated}
-use Rattle.rules.specs.Given.{above, ascends}
 use Rattle.rules.specs.Matrix.{Above, Ascends}
 use Rattle.rules.specs.Trits.{bit}
-
--- a test that ascends is so
-above-each : (b x : ℕ) (xs : List ℕ) → b < x → above x xs ≡ true → Above b xs
-unfolding above Above
-above-each b x [] h e = tt
-above-each b x (y ∷ xs) h e =
-    let l = ltb-true x y (and-left (ltb x y) (above y xs) e) in
-    (omega arith, above-each b y xs (omega arith) (and-right (ltb x y) (above y xs) e))
-
-above-is : (x : ℕ) (xs : List ℕ) → above x xs ≡ true → Above x xs × Ascends xs
-unfolding above Above Ascends
-above-is x [] e = (tt, tt)
-above-is x (y ∷ xs) e =
-    let l = ltb-true x y (and-left (ltb x y) (above y xs) e) in
-    let a = and-right (ltb x y) (above y xs) e in
-    let r = above-is y xs a in
-    ((l, above-each x y xs l a), (r .0, r .1))
-
-pub ascends-is : (xs : List ℕ) → ascends xs ≡ true → Ascends xs
-unfolding ascends Ascends
-ascends-is [] e = tt
-ascends-is (x ∷ xs) e = let r = above-is x xs e in (r .0, r .1)
 
 above-not : (b : ℕ) (xs : List ℕ) (q : ℕ) → Above b xs → mem q xs ≡ true → b < q
 unfolding Above mem

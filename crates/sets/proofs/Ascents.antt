@@ -1,45 +1,15 @@
 -- The test that a list ascends, and what it says; a set of names stays one. Assumes nothing.
-use Prim.Native.Nat.{ℕ, _<_}
-use borrow.Author.Tests.{lt-ltb, ltb-true}
+use Prim.Native.Nat.{ℕ}
 use lib.Dec.{eqb, ltb}
 use mathlib.Core.Bool.{Bool, true, not}
 use mathlib.Core.List.{List, [], _∷_}
 use mathlib.Core.Path.{_≡_, refl, ap}
-use native.Mathlib.Omega.{arith}
-use Rattle.lists.specs.Bools.{and-both, and-left, and-right, by-bool}
+use Rattle.lists.specs.Bools.{and-left, and-right, by-bool}
 use Rattle.lists.specs.Lists.{all}
-use Rattle.rules.proofs.Sets.{ins-ascends, union-ascends}
-use Rattle.rules.specs.Given.{above, ascends, cells}
-use Rattle.rules.specs.Matrix.{Above, Ascends, ins, setOf, union}
+use Rattle.rules.proofs.Sets.{ascends-says, ascends-test, ins-ascends, union-ascends}
+use Rattle.rules.specs.Given.{ascends, cells}
+use Rattle.rules.specs.Matrix.{ins, setOf, union}
 use Rattle.rules.specs.Nets.{isCell, isName, over}
-
-above-less : (a b : ℕ) → a < b → (xs : List ℕ) → Above b xs → Above a xs
-unfolding Above
-above-less a b h [] k = tt
-above-less a b h (x ∷ xs) k = (omega (arith, k .0), above-less a b h xs (k .1))
-
-above-says : (b : ℕ) (xs : List ℕ) → above b xs ≡ true → Above b xs × Ascends xs
-unfolding above Above Ascends
-above-says b [] e = (tt, tt)
-above-says b (x ∷ xs) e =
-    let h = ltb-true b x (and-left (ltb b x) (above x xs) e) in
-    let r = above-says x xs (and-right (ltb b x) (above x xs) e) in
-    ((h, above-less b x h xs (r .0)), r)
-
-above-test : (b : ℕ) (xs : List ℕ) → Above b xs → Ascends xs → above b xs ≡ true
-unfolding above Above Ascends
-above-test b [] h k = refl
-above-test b (x ∷ xs) h k = and-both (ltb b x) (above x xs) (lt-ltb b x (h .0)) (above-test x xs (k .0) (k .1))
-
-pub ascends-says : (xs : List ℕ) → ascends xs ≡ true → Ascends xs
-unfolding ascends Ascends
-ascends-says [] e = tt
-ascends-says (x ∷ xs) e = above-says x xs e
-
-pub ascends-test : (xs : List ℕ) → Ascends xs → ascends xs ≡ true
-unfolding ascends Ascends
-ascends-test [] k = refl
-ascends-test (x ∷ xs) k = above-test x xs (k .0) (k .1)
 
 pub ins-keeps : (x : ℕ) (ys : List ℕ) → ascends ys ≡ true → ascends (ins x ys) ≡ true
 ins-keeps x ys e = ascends-test (ins x ys) (ins-ascends x ys (ascends-says ys e))
