@@ -1,0 +1,11 @@
+pub mod Builds
+pub mod Forms
+pub mod Grows
+pub mod Handed
+pub mod Joins
+pub mod Laws
+pub mod Named
+pub mod Ones
+pub mod Raws
+pub mod Tails
+pub mod Tested

@@ -1,0 +1,4 @@
+pub mod Checked
+pub mod Form
+pub mod Grown
+pub mod Says
