@@ -22,6 +22,22 @@ fn main() {
         let text = fs::read_to_string(&from).unwrap_or_else(|e| panic!("{}: {e}; set {VARIABLE}", from.display()));
         fs::write(out.join(to), without_inner_docs(&text)).expect("the build's folder takes files");
     }
+    if env::var_os("CARGO_FEATURE_PORT").is_some() {
+        link_port();
+    }
+}
+
+/// The port's static library stands where `rt staticlib abi` writes it.
+fn link_port() {
+    let folder = root().join("target/staticlib");
+    println!("cargo:rerun-if-changed={}", folder.join("libabi.a").display());
+    println!("cargo:rustc-link-search=native={}", folder.display());
+    println!("cargo:rustc-link-lib=static=abi");
+}
+
+/// The root of the repository.
+fn root() -> PathBuf {
+    Path::new(&env::var("CARGO_MANIFEST_DIR").expect("cargo sets CARGO_MANIFEST_DIR")).join("..")
 }
 
 /// The folder named by the variable, else the first place that has the original.
@@ -29,9 +45,7 @@ fn original() -> PathBuf {
     if let Some(folder) = env::var_os(VARIABLE) {
         return PathBuf::from(folder);
     }
-    let package = env::var("CARGO_MANIFEST_DIR").expect("cargo sets CARGO_MANIFEST_DIR");
-    let root = Path::new(&package).join("..");
-    let places = [root.join("docs/src"), root.join("../shared/docs/src")];
+    let places = ["docs/src", "../shared/docs/src"].map(|place| root().join(place));
     places.iter().find(|place| place.join(FILES[0].0).is_file()).unwrap_or(&places[0]).clone()
 }
 

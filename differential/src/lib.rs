@@ -17,6 +17,8 @@ pub mod meaning;
 pub mod merges;
 pub mod model;
 pub mod original;
+#[cfg(feature = "port")]
+pub mod port;
 pub mod questions;
 pub mod random;
 pub mod reader;

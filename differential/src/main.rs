@@ -2,9 +2,12 @@
 
 use std::process::ExitCode;
 
+#[cfg(feature = "port")]
+use differential::port::{self, bench};
 use differential::{answers, cells, meaning, settings, stats};
 
-const USAGE: &str = "usage: settings | stats | small | lists | answers | print | pass, with --seed N, --cases N";
+const USAGE: &str = "usage: settings | stats | small | lists | answers | print | pass | port | bench | count, with \
+                     --seed N, --cases N; port, bench and count need the feature port";
 
 fn main() -> ExitCode {
     let arguments: Vec<String> = std::env::args().skip(1).collect();
@@ -18,6 +21,12 @@ fn main() -> ExitCode {
         Some("answers") => shown(|| print!("{}", answers::answers(seed))),
         Some("print") => shown(|| answers::print(seed, cases(10))),
         Some("pass") => shown(|| cells::print(seed, cases(10))),
+        #[cfg(feature = "port")]
+        Some("port") => port::run(seed, cases(20_000)),
+        #[cfg(feature = "port")]
+        Some("bench") => bench::run(seed),
+        #[cfg(feature = "port")]
+        Some("count") => bench::count(seed),
         _ => {
             eprintln!("{USAGE}");
             false

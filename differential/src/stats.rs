@@ -5,15 +5,16 @@ use std::collections::BTreeSet;
 use crate::case::{COLUMNS_MAX, Case, ROWS_MAX};
 use crate::check::disagreement;
 use crate::generate::Generator;
-use crate::kinds::{Counts, KINDS, tell};
+use crate::kinds::{Counts, KINDS, Told, tell};
 use crate::random::Random;
 use crate::small;
 
 /// The least share of a run that each kind must have.
 const LEAST_PERCENT: usize = 1;
 
-struct Run {
-    random: Random,
+/// The kinds and sizes of the cases asked, and on how many of them something differed.
+#[derive(Default)]
+pub struct Run {
     counts: Counts,
     columns: BTreeSet<usize>,
     rows: BTreeSet<usize>,
@@ -23,7 +24,7 @@ struct Run {
 
 /// A run over seeded cases; true if every kind has its share and nothing disagrees.
 pub fn run(seed: u64, cases: usize) -> bool {
-    let run = Run::over(seed, Generator::new(seed).take(cases));
+    let run = Run::over(Generator::new(seed).take(cases), held_to_words(seed));
     println!("seed {seed}, {cases} cases");
     let enough = run.print_shares();
     let every_size = run.print_sizes();
@@ -32,32 +33,44 @@ pub fn run(seed: u64, cases: usize) -> bool {
 
 /// Every small case; true if nothing disagrees.
 pub fn run_small(seed: u64) -> bool {
-    Run::over(seed, small::cases()).print_end()
+    Run::over(small::cases(), held_to_words(seed)).print_end()
+}
+
+fn held_to_words(seed: u64) -> impl FnMut(&Told) -> Option<&'static str> {
+    let mut random = Random::new(!seed);
+    move |told| disagreement(&mut random, told)
 }
 
 impl Run {
-    fn over(seed: u64, cases: impl Iterator<Item = Case>) -> Run {
-        let (counts, columns, rows) = Default::default();
-        let mut run = Run { random: Random::new(!seed), counts, columns, rows, cases: 0, failed: 0 };
-        cases.for_each(|case| run.add(case));
+    /// Counts each case, and prints those on which `difference` finds one.
+    pub fn over(cases: impl Iterator<Item = Case>, mut difference: impl FnMut(&Told) -> Option<&'static str>) -> Run {
+        let mut run = Run::default();
+        for case in cases {
+            let told = tell(case);
+            run.count(&told);
+            if let Some(what) = difference(&told) {
+                run.failed += 1;
+                println!("case {}: {what} differs: {:?}", run.cases, told.case);
+            }
+        }
         run
     }
 
-    fn add(&mut self, case: Case) {
-        let told = tell(case);
+    fn count(&mut self, told: &Told) {
         let matrix = &told.case.matrix;
         self.columns.insert(matrix.value.len());
         self.rows.insert(matrix.rows.len());
         self.cases += 1;
         self.counts.add(&told.kinds);
-        if let Some(what) = disagreement(&mut self.random, &told) {
-            self.failed += 1;
-            println!("case {}: {what} differs: {:?}", self.cases, told.case);
-        }
+    }
+
+    /// Both runs as one; kinds and sizes stay those of this one.
+    pub fn and(self, other: Run) -> Run {
+        Run { cases: self.cases + other.cases, failed: self.failed + other.failed, ..self }
     }
 
     /// Prints each kind's count and share; true if none is under the least.
-    fn print_shares(&self) -> bool {
+    pub fn print_shares(&self) -> bool {
         let mut enough = true;
         for kind in KINDS {
             let count = self.counts.of(kind);
@@ -70,7 +83,7 @@ impl Run {
     }
 
     /// Prints which sizes up to one past the bounds did not occur before the enable; true if all did.
-    fn print_sizes(&self) -> bool {
+    pub fn print_sizes(&self) -> bool {
         let missing =
             |most: usize, seen: &BTreeSet<usize>| (0..=most + 1).filter(|size| !seen.contains(size)).collect();
         let columns: Vec<usize> = missing(COLUMNS_MAX, &self.columns);
@@ -79,7 +92,8 @@ impl Run {
         columns.is_empty() && rows.is_empty()
     }
 
-    fn print_end(&self) -> bool {
+    /// Prints how many passed and failed; true if none failed.
+    pub fn print_end(&self) -> bool {
         println!("{} passed, {} failed", self.cases - self.failed, self.failed);
         self.failed == 0
     }

@@ -34,6 +34,11 @@ impl Opened {
         self.0.rows.iter().map(|row| &row.pattern[..])
     }
 
+    /// The original's own tree, for timing: it can only be held and dropped.
+    pub fn dispatch(self) -> impl Sized {
+        self.0.dispatch()
+    }
+
     /// The first row's rules, or none where there are no rows.
     pub fn first_rules(&self) -> Vec<Net> {
         self.0.rows.first().map(|row| row.rules.iter().copied().collect()).unwrap_or_default()

@@ -1,0 +1,187 @@
+// normalize: rows in order, then the columns that stay.
+ghost use lib.Dec.{eqb};
+ghost use lib.ListN.{getD, take};
+ghost use mathlib.Core.Bool.{cond, false, not, _||_};
+ghost use mathlib.Core.List.{map};
+ghost use mathlib.Core.Option.{none, some};
+ghost use mathlib.Core.Path.{_≡_};
+ghost use Prim.Native.Nat.{ℕ, _≤_};
+ghost use Rattle.lists.specs.Lists.{kept};
+ghost use Rattle.lists.specs.Vec.{vec};
+ghost use Rattle.matrix.specs.Mat.{Clean, matrixFrom, view};
+ghost use Rattle.rows.specs.Rows.{flags, places};
+ghost use Rattle.rules.specs.Bounds.{columns-max};
+ghost use Rattle.rules.specs.Codes.{netCode};
+ghost use Rattle.rules.specs.Matrix.{Row};
+ghost use Rattle.rules.specs.Nets.{isCell};
+ghost use Rattle.rules.specs.Normalize.{again, normalize};
+ghost use Rattle.rules.specs.Steps.{goes, walkRows, xAt};
+ghost use Rattle.rules.specs.Trits.{isX};
+
+// By the patterns as given.
+fn again(
+    have: bool,
+    last: [u8; rules::COLUMNS_MAX],
+    pattern: [u8; rules::COLUMNS_MAX],
+    n: usize,
+) -> bool
+    requires { ⌜ n ≤ columns-max ⌝ }
+    ensures { λ r. ⌜ r ≡ again (cond have (some (take n last)) none) (take n pattern) ⌝ }
+{
+    if !have {
+        return false;
+    }
+    if rows::inner::alike(pattern, last, n) {
+        return true;
+    }
+    rows::inner::undef(last, n)
+}
+
+// A row that a constant drops is the last one all the same.
+pub fn settle_rows(m: crate::Matrix, firsts: [usize; rules::COLUMNS_MAX]) -> crate::Matrix
+    requires { ⌜ Clean m × (firsts ≡ vec columns-max 0 (places (view m .nets))) ⌝ }
+    ensures { λ r. ⌜ r ≡ matrixFrom (record { nets = view m .nets; rows = walkRows (view m .nets) none (view m .rows) }) ⌝ }
+{
+    let value = m.value;
+    let n = m.columns;
+    let mut rows = [rows::inner::blank(); rules::ROWS_MAX];
+    let mut k = 0;
+    let mut have = false;
+    let mut last = [0u8; rules::COLUMNS_MAX];
+    let mut j = 0;
+    while j < m.count {
+        let row = m.rows[j];
+        j += 1;
+        let pattern = row.pattern;
+        if !again(have, last, pattern, n) {
+            let s = rows::inner::settle(value, firsts, n, pattern);
+            let moved = s.pattern;
+            let dropped = s.gone;
+            have = true;
+            last = pattern;
+            if !dropped {
+                let named = row.rules;
+                rows[k] = rows::Row {
+                    pattern: moved,
+                    len: n,
+                    rules: named,
+                };
+                k += 1;
+            }
+        }
+    }
+    crate::Matrix {
+        value: value,
+        columns: n,
+        rows: rows,
+        count: k,
+    }
+}
+
+fn marks_at(used: bool, mask: u8) -> bool
+    ensures { λ r. ⌜ r ≡ (used || not (isX mask)) ⌝ }
+{
+    if used {
+        return true;
+    }
+    mask != 2
+}
+
+fn mark(
+    used: [bool; rules::COLUMNS_MAX],
+    n: usize,
+    pattern: [u8; rules::COLUMNS_MAX],
+) -> [bool; rules::COLUMNS_MAX]
+    requires { ⌜ n ≤ columns-max ⌝ }
+    ensures { λ r. ⌜ r ≡ vec columns-max false (flags (λ (j mask : ℕ). getD used j false || not (isX mask)) (take n pattern)) ⌝ }
+{
+    let mut made = [false; rules::COLUMNS_MAX];
+    for i in 0..n {
+        let g = marks_at(used[i], pattern[i]);
+        made[i] = g;
+    }
+    made
+}
+
+// The columns where some row has no X, in one pass over the rows.
+fn used_columns(m: crate::Matrix) -> [bool; rules::COLUMNS_MAX]
+    requires { ⌜ Clean m ⌝ }
+    ensures { λ r. ⌜ r ≡ vec columns-max false (flags (λ (j n : ℕ). not (xAt (view m .rows) j)) (view m .nets)) ⌝ }
+{
+    let n = m.columns;
+    let mut used = [false; rules::COLUMNS_MAX];
+    let mut i = 0;
+    while i < m.count {
+        let row = m.rows[i];
+        let pattern = row.pattern;
+        let next = mark(used, n, pattern);
+        used = next;
+        i += 1;
+    }
+    used
+}
+
+fn goes(net: rules::Net, first: usize, j: usize, used: bool) -> bool
+    ensures { λ r. ⌜ r ≡ (not (isCell (netCode net)) || (not (eqb first j) || not used)) ⌝ }
+{
+    match net {
+        rules::Net::Const(_) => true,
+        rules::Net::Cell(_) => {
+            if first != j {
+                return true;
+            }
+            !used
+        }
+    }
+}
+
+// Of the rows as settled: a mask that moved into its net's first column keeps that column.
+pub fn gone(m: crate::Matrix, firsts: [usize; rules::COLUMNS_MAX]) -> [bool; rules::COLUMNS_MAX]
+    requires { ⌜ Clean m × (firsts ≡ vec columns-max 0 (places (view m .nets))) ⌝ }
+    ensures { λ r. ⌜ r ≡ vec columns-max false (flags (goes (view m .nets) (view m .rows)) (view m .nets)) ⌝ }
+{
+    let n = m.columns;
+    let used = used_columns(m);
+    let mut made = [false; rules::COLUMNS_MAX];
+    for j in 0..n {
+        let net = trits::inner::net(m.value[j]);
+        let g = goes(net, firsts[j], j, used[j]);
+        made[j] = g;
+    }
+    made
+}
+
+pub fn strip_rows(mut m: crate::Matrix, gone: [bool; rules::COLUMNS_MAX]) -> crate::Matrix
+    requires { ⌜ Clean m ⌝ }
+    ensures { λ r. ⌜ r ≡ matrixFrom (record { nets = kept (take (m .columns) gone) (view m .nets); rows = map (λ (r : Row). record { pattern = kept (take (m .columns) gone) (r .pattern); rules = r .rules }) (view m .rows) }) ⌝ }
+{
+    let n = m.columns;
+    let value = m.value;
+    let stay = rows::inner::strip_nets(gone, n, value);
+    let k = stay.columns;
+    let mut i = 0;
+    while i < m.count {
+        let mut row = m.rows[i];
+        let pattern = row.pattern;
+        let left = rows::inner::strip(gone, n, pattern);
+        row.pattern = left;
+        row.len = k;
+        m.rows[i] = row;
+        i += 1;
+    }
+    let nets = stay.value;
+    m.value = nets;
+    m.columns = k;
+    m
+}
+
+pub fn normalize(m: crate::Matrix) -> crate::Matrix
+    requires { ⌜ Clean m ⌝ }
+    ensures { λ r. ⌜ r ≡ matrixFrom (normalize (view m)) ⌝ }
+{
+    let value = m.value;
+    let firsts = rows::inner::firsts(value, m.columns);
+    let settled = settle_rows(m, firsts);
+    let gone = gone(settled, firsts);
+    strip_rows(settled, gone)
+}

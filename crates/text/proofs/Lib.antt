@@ -1,0 +1,9 @@
+pub mod Laws
+pub mod Nets
+pub mod Numbers
+pub mod Prints
+pub mod Reader
+pub mod Rows
+pub mod RowsIn
+pub mod Scans
+pub mod Values

@@ -1,0 +1,185 @@
+-- A value line is taken exactly if it is one: its nets, taken loosely, print back to it. Assumes nothing.
+use Prim.Native.Nat.{ℕ, zero, suc, _+_, _-_, _*_, _≤_, _<_}
+use borrow.Author.Tests.{le-leb, leb-true}
+use lib.Dec.{leb, ltb}
+use lib.ListN.{drop, getD, length, length-append, length-reverse, replicate, set, take}
+use lib.Seq.{length-take-le, take-all, take-at}
+use mathlib.Core.Bool.{Bool, true, false, not, cond, _&&_}
+use mathlib.Core.List.{List, [], _∷_, _++_, reverse, reverse-cons, reverse-reverse}
+use mathlib.Core.Path.{_≡_, refl, sym, ap, _∙_, subst}
+use native.Mathlib.Omega.{arith}
+use Rattle.lists.specs.Bools.{and-both, and-left, and-right, by-bool}
+use Rattle.lists.specs.Lists.{all, same, same-refl, same-true}
+use Rattle.lists.specs.Vec.{fill, length-vec, take-vec, vec}
+use Rattle.rows.specs.Rows.{netsFrom}
+use Rattle.rows.specs.declared.Nets.{Nets}
+use Rattle.rules.proofs.Words.{nets-in}
+use Rattle.rules.specs.Bounds.{columns-max, rules-max}
+use Rattle.rules.specs.Bytes.{byte}
+use Rattle.rules.specs.Nets.{isCell, number, over}
+use Rattle.rules.specs.Print.{digits, net, nets, valueLine}
+use Rattle.rules.specs.Read.{isValueLine, netsIn}
+use Rattle.rules.specs.Refusals.{allLow}
+use Rattle.sets.specs.Sets.{rulesFrom}
+use Rattle.text.proofs.Nets.{scan-few, scan-low, scan-printed}
+use Rattle.text.proofs.Numbers.{reverse-take}
+use Rattle.text.proofs.Rows.{closing, value-is, value-long}
+use Rattle.text.specs.Scan.{figureOf, looseNets, scanned, wordAt}
+use Rattle.text.specs.Taken.{valueTaken}
+use Rattle.text.specs.Texts.{downs}
+
+abbrev low : ℕ → Bool
+low n = not (over n)
+
+-- ---- arrays
+
+-- a turn of a loop that writes l into a fresh array
+pub fill-turn : (m : ℕ) (l v : List ℕ) (i x : ℕ) → v ≡ vec m 0 (take i l) → x ≡ getD l i 0 → i < length l → length l ≤ m → set v i x ≡ vec m 0 (take (i + 1) l)
+fill-turn m l v i x e q h k = ap (λ (u : List ℕ). set u i x) e ∙ ap (set (vec m 0 (take i l)) i) q ∙ fill m 0 l i h k
+
+pub fill-end : (m : ℕ) (l v : List ℕ) (i : ℕ) → v ≡ vec m 0 (take i l) → length l ≤ i → v ≡ vec m 0 l
+fill-end m l v i e h = e ∙ ap (vec m 0) (take-all i l h)
+
+pub flip-at : (v : List ℕ) (n i : ℕ) → i < n → n ≤ length v → getD v (n - 1 - i) 0 ≡ getD (reverse (take n v)) i 0
+flip-at v n zero h k =
+    let e : n - 1 - 0 ≡ n - 1 = omega arith in
+    ap (λ (j : ℕ). getD v j 0) e ∙ sym (ap (λ (l : List ℕ). getD l 0 0) (reverse-take v n (omega arith) k))
+flip-at v n (suc i) h k =
+    let e : n - 1 - suc i ≡ n - 1 - 1 - i = omega arith in
+    ap (λ (j : ℕ). getD v j 0) e ∙ flip-at v (n - 1) i (omega arith) (omega arith)
+    ∙ sym (ap (λ (l : List ℕ). getD l (suc i) 0) (reverse-take v n (omega arith) k))
+
+pub flip-long : (v : List ℕ) (n : ℕ) → n ≤ length v → length (reverse (take n v)) ≡ n
+flip-long v n k = length-reverse (take n v) ∙ length-take-le n v k
+
+-- what a scan leaves in a fresh array
+pub vec-drop : (n : ℕ) (l : List ℕ) → length l ≤ n → l ++ drop (length l) (replicate n 0) ≡ vec n 0 l
+unfolding vec
+vec-drop zero [] h = refl
+vec-drop zero (x ∷ l) h = absurd (omega arith)
+vec-drop (suc n) [] h = ap (λ (k : List ℕ). 0 ∷ k) (vec-drop n [] (omega arith))
+vec-drop (suc n) (x ∷ l) h = ap (λ (k : List ℕ). x ∷ k) (vec-drop n l (omega arith))
+
+-- ---- the nets of a value line
+
+pub loose-few : (l : List ℕ) → length (looseNets l) ≤ columns-max
+unfolding looseNets
+loose-few l = omega (arith, length-reverse (scanned columns-max l 1), scan-few columns-max l 1)
+
+pub all-append : (p : ℕ → Bool) (xs ys : List ℕ) → all p xs ≡ true → all p ys ≡ true → all p (xs ++ ys) ≡ true
+all-append p [] ys h k = k
+all-append p (x ∷ xs) ys h k =
+    and-both (p x) (all p (xs ++ ys)) (and-left (p x) (all p xs) h) (all-append p xs ys (and-right (p x) (all p xs) h) k)
+
+all-reverse : (p : ℕ → Bool) (xs : List ℕ) → all p xs ≡ true → all p (reverse xs) ≡ true
+all-reverse p [] h = refl
+all-reverse p (x ∷ xs) h =
+    let r = all-reverse p xs (and-right (p x) (all p xs) h) in
+    rw (reverse-cons x xs) (all-append p (reverse xs) (x ∷ []) r (and-both (p x) true (and-left (p x) (all p xs) h) refl))
+
+pub loose-low : (l : List ℕ) → allLow (looseNets l) ≡ true
+unfolding looseNets
+loose-low l = all-reverse low (scanned columns-max l 1) (scan-low columns-max l 1)
+
+pub nets-made : (l z f v : List ℕ) (r : ℕ) → f ≡ scanned columns-max l 1 ++ drop r z → r ≡ length (scanned columns-max l 1) → v ≡ vec columns-max 0 (reverse (take r f))
+    → record { value = v; columns = r } ≡ netsFrom (looseNets l)
+unfolding looseNets
+nets-made l z f v r e q p =
+    let n = scanned columns-max l 1 in
+    let t : take r f ≡ n = ap (take r) e ∙ take-at n (drop r z) r (sym q) in
+    let a : v ≡ vec columns-max 0 (reverse n) = p ∙ ap (λ (k : List ℕ). vec columns-max 0 (reverse k)) t in
+    let b : r ≡ length (reverse n) = q ∙ sym (length-reverse n) in
+    λ i. record { value = a i; columns = b i }
+
+loose-printed : (ns : List ℕ) → length ns ≤ columns-max → allLow ns ≡ true → looseNets (valueLine ns) ≡ ns
+unfolding looseNets downs figureOf wordAt
+loose-printed ns h k =
+    let a : all low (reverse ns) ≡ true = all-reverse low ns k in
+    let f : length (reverse ns) ≤ columns-max = omega (arith, length-reverse ns) in
+    let s : scanned columns-max ((byte "[" ∷ []) ++ (nets (reverse ns) ++ closing)) 1 ≡ reverse ns =
+    scan-printed columns-max (byte "[" ∷ []) (reverse ns) closing f a refl refl in
+    ap (λ (l : List ℕ). reverse (scanned columns-max l 1)) (value-is ns) ∙ ap reverse s ∙ reverse-reverse ns
+
+-- ---- taken or not
+
+is-value : (l : List ℕ) → valueLine (looseNets l) ≡ l → (isValueLine l ≡ true) × (netsIn l ≡ looseNets l)
+unfolding isValueLine
+is-value l e =
+    let n = looseNets l in
+    let q : netsIn l ≡ n = ap netsIn (sym e) ∙ nets-in n (loose-low l) in
+    let s : same (valueLine n) l ≡ true = subst (λ (k : List ℕ). same (valueLine n) k ≡ true) e (same-refl (valueLine n)) in
+    let t : (same (valueLine n) l && (leb (length n) columns-max && all low n)) ≡ true =
+    and-both (same (valueLine n) l) (leb (length n) columns-max && all low n) s
+    (and-both (leb (length n) columns-max) (all low n) (le-leb (length n) columns-max (loose-few l)) (loose-low l)) in
+    (ap (λ (k : List ℕ). same (valueLine k) l && (leb (length k) columns-max && all low k)) q ∙ t, q)
+
+value-back : (l : List ℕ) → isValueLine l ≡ true → valueLine (looseNets l) ≡ l
+unfolding isValueLine
+value-back l h =
+    let n = netsIn l in
+    let rest = leb (length n) columns-max && all low n in
+    let e : valueLine n ≡ l = same-true (valueLine n) l (and-left (same (valueLine n) l) rest h) in
+    let r = and-right (same (valueLine n) l) rest h in
+    let f = leb-true (length n) columns-max (and-left (leb (length n) columns-max) (all low n) r) in
+    let g = and-right (leb (length n) columns-max) (all low n) r in
+    let q : looseNets l ≡ n = ap looseNets (sym e) ∙ loose-printed n f g in
+    ap valueLine q ∙ e
+
+-- the printed nets of the struct
+module _ (l : List ℕ) (ns : Nets) (e : ns ≡ netsFrom (looseNets l)) where
+  pub struct-nets : take (ns .columns) (ns .value) ≡ looseNets l
+  struct-nets = ap (λ (x : Nets). take (x .columns) (x .value)) e ∙ take-vec columns-max 0 (looseNets l) (loose-few l)
+
+  pub struct-few : (ns .columns ≤ columns-max) × (length (ns .value) ≡ columns-max)
+  struct-few = (omega (arith, loose-few l, ap (λ (x : Nets). x .columns) e), ap (λ (x : Nets). length (x .value)) e ∙ length-vec columns-max 0 (looseNets l))
+
+  pub struct-low : allLow (take (ns .columns) (ns .value)) ≡ true
+  struct-low = ap allLow struct-nets ∙ loose-low l
+
+  pub value-yes : valueLine (take (ns .columns) (ns .value)) ≡ l → record { fine = true; nets = ns } ≡ valueTaken l
+  unfolding valueTaken
+  value-yes p =
+      let t = is-value l (ap valueLine (sym struct-nets) ∙ p) in
+      let f : true ≡ isValueLine l = sym (t .0) in
+      let q : ns ≡ netsFrom (cond (isValueLine l) (netsIn l) []) = e ∙ ap netsFrom (sym (t .1)) ∙ ap (λ (b : Bool). netsFrom (cond b (netsIn l) [])) f in
+      λ i. record { fine = f i; nets = q i }
+
+  pub value-no : (valueLine (take (ns .columns) (ns .value)) ≡ l → ⊥) → record { fine = false; nets = netsFrom [] } ≡ valueTaken l
+  unfolding valueTaken
+  value-no p =
+      let f : false ≡ isValueLine l = by-bool (isValueLine l) (λ b. absurd (p (ap valueLine struct-nets ∙ value-back l b))) (λ b. sym b) in
+      λ i. record { fine = f i; nets = netsFrom (cond (f i) (netsIn l) []) }
+
+-- ---- how long a value line is at most
+
+digits-few : (n : ℕ) → length (digits n) ≤ 4
+unfolding digits
+digits-few n =
+    by-bool (ltb n 10) (λ p. rw p (omega arith))
+    (λ p. rw p (by-bool (ltb n 100) (λ q. rw q (omega arith))
+    (λ q. rw q (by-bool (ltb n 1000) (λ r. rw r (omega arith)) (λ r. rw r (omega arith))))))
+
+net-few : (n : ℕ) → length (net n) < 6
+unfolding net
+net-few n = let d = digits-few (number n) in by-bool (isCell n) (λ p. rw p (omega arith)) (λ p. rw p (omega arith))
+
+pub nets-few : (ns : List ℕ) → length (nets ns) ≤ 6 * length ns
+unfolding nets
+nets-few [] = omega arith
+nets-few (n ∷ ns) = omega (arith, net-few n, nets-few ns, length-append (byte " " ∷ net n) (nets ns))
+
+pub value-few : (ns : List ℕ) → length ns ≤ columns-max → length (valueLine ns) ≤ 101
+unfolding downs
+value-few ns h = omega (arith, nets-few (reverse ns), length-reverse ns, value-long ns)
+
+-- ---- rules, taken into a fresh array
+
+pub names-made : (l : List ℕ) (at : ℕ) (f : List ℕ) (r : ℕ) → f ≡ scanned rules-max l at ++ drop r (replicate rules-max 0) → r ≡ length (scanned rules-max l at)
+    → record { items = f; count = r } ≡ rulesFrom (scanned rules-max l at)
+names-made l at f r e q =
+    let n = scanned rules-max l at in
+    let a : f ≡ vec rules-max 0 n = e ∙ ap (λ (k : ℕ). n ++ drop k (replicate rules-max 0)) q ∙ vec-drop rules-max n (scan-few rules-max l at) in
+    λ i. record { items = a i; count = q i }
+
+pub struct-short : (l : List ℕ) (ns : Nets) → ns ≡ netsFrom (looseNets l) → length (valueLine (take (ns .columns) (ns .value))) ≤ 101
+struct-short l ns e = subst (λ (k : List ℕ). length (valueLine k) ≤ 101) (sym (struct-nets l ns e)) (value-few (looseNets l) (loose-few l))
