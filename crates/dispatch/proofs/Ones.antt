@@ -1,5 +1,5 @@
 -- What dispatch promises of its answer fixes it. Assumes nothing.
-use mathlib.Core.Path.{_≡_, _∙_, ap, sym}
+use mathlib.Core.Path.{_∙_, _≡_, ap, sym}
 use native.Mathlib.Omega.{arith}
 use Prim.Native.Nat.{ℕ}
 use Rattle.dispatch.specs.Good.{builtRead}

@@ -220,6 +220,5 @@ pub fn dispatch(matrix: matrix::Matrix, enable: rules::Net, store: &mut [u16]) -
         tree::inner::clear(&mut store[..used]);
         return Built::Refused(no);
     }
-    let m = made.matrix;
-    build(m, store)
+    build(made.matrix, store)
 }

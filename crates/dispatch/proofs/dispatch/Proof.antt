@@ -57,17 +57,17 @@ returns c =
     (cleared-is xs (c .before .before .clear .last .0) (c .before .before .before .before .in-use .result) (c .before .before .before .before .in-use .ensures .0) (c .before .before .before .before .in-use .ensures .1) (c .before .before .clear .ensures))
 
 build-requires : tie.Need-build-requires
-build-requires c κs = made-is (c .before .before .before) (c .before .before .if1 .left) .0
+build-requires c κs = made-is (c .before .before) (c .before .if1 .left) .0
 
 same-length-2 : tie.Need-same-length-2
 same-length-2 c = search needs
 
 returns-2 : tie.Need-returns-2
 returns-2 c =
-    let a = c .before .before .before .before .before .before .before .before .before .args in
+    let a = c .before .before .before .before .before .before .before .before .args in
     let xs = a .store .now in
-    built-answer (netCode (a .enable)) (given (a .matrix)) xs (c .before .before .before .before .before .before .number .result) _ _ (number-is (c .before .before .before .before .before .before)) (c .before .before .before .before .before .if1 .left)
-    (subst (λ (m : MatrixOf). Whole (rawOf m) xs (c .before .before .build .last .1 .0) (c .before .before .build .result)) (made-is (c .before .before .before .before .before .before) (c .before .before .before .before .before .if1 .left) .1) (c .before .before .build .ensures))
+    built-answer (netCode (a .enable)) (given (a .matrix)) xs (c .before .before .before .before .before .number .result) _ _ (number-is (c .before .before .before .before .before)) (c .before .before .before .before .if1 .left)
+    (subst (λ (m : MatrixOf). Whole (rawOf m) xs (c .before .before .build .last .1 .0) (c .before .before .build .result)) (made-is (c .before .before .before .before .before) (c .before .before .before .before .if1 .left) .1) (c .before .before .build .ensures))
 
 pub dispatch-spec : {M : Type 1} → statement M
 dispatch-spec =
