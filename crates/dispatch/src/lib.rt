@@ -8,14 +8,15 @@ ghost use mathlib.Core.Path.{_≡_};
 ghost use Prim.Native.Nat.{ℕ, _*_, _+_, _<_, _≤_, min};
 ghost use Rattle.dispatch.specs.Choice.{least, upto};
 ghost use Rattle.dispatch.specs.Good.{Good, builtRead};
+ghost use Rattle.lists.specs.Lists.{mapTo};
 ghost use Rattle.lists.specs.Vec.{vec};
-ghost use Rattle.matrix.specs.Mat.{Clean, given, matrixFrom, view};
+ghost use Rattle.matrix.specs.Mat.{Clean, given, view};
 ghost use Rattle.rules.proofs.Evals.{Cells};
 ghost use Rattle.rules.specs.Answers.{dispatchAnswer, dispatchStore};
 ghost use Rattle.rules.specs.Bounds.{cell-max, columns-max, node-run, nodes-max, rows-max};
 ghost use Rattle.rules.specs.Codes.{netCode};
-ghost use Rattle.rules.specs.Dispatch.{catchAll, column, countX, done, rawOf, rules, test};
-ghost use Rattle.rules.specs.Matrix.{assume};
+ghost use Rattle.rules.specs.Dispatch.{catchAll, column, done, rawOf, rules, test};
+ghost use Rattle.rules.specs.Matrix.{swap};
 ghost use Rattle.rules.specs.Nets.{cell};
 ghost use Rattle.rules.specs.Refuse.{CATCH};
 ghost use Rattle.rules.specs.Tree.{leaf};
@@ -53,24 +54,6 @@ fn tally(
     made
 }
 
-// The X of every column, in one pass over the rows.
-fn counts(m: matrix::Matrix) -> [usize; rules::COLUMNS_MAX]
-    requires { ⌜ Clean m ⌝ }
-    ensures { λ r. ⌜ r ≡ vec columns-max 0 (upto (countX (view m .rows)) (m .columns)) ⌝ }
-{
-    let n = m.columns;
-    let mut made = [0usize; rules::COLUMNS_MAX];
-    let mut i = m.count;
-    while i > 0 {
-        i -= 1;
-        let row = m.rows[i];
-        let pattern = row.pattern;
-        let next = tally(made, n, pattern);
-        made = next;
-    }
-    made
-}
-
 // The lowest on a tie.
 fn fewest(counts: [usize; rules::COLUMNS_MAX], n: usize) -> rules::Column
     requires { ⌜ n ≤ columns-max ⌝ }
@@ -88,12 +71,21 @@ fn fewest(counts: [usize; rules::COLUMNS_MAX], n: usize) -> rules::Column
     rules::Column(at)
 }
 
+// The X of every column are counted in one pass over the rows.
 fn column_of(m: matrix::Matrix) -> rules::Column
     requires { ⌜ Clean m ⌝ }
     ensures { λ r. ⌜ r .0 ≡ column (view m) ⌝ }
 {
     let n = m.columns;
-    let counts = counts(m);
+    let mut counts = [0usize; rules::COLUMNS_MAX];
+    let mut i = m.count;
+    while i > 0 {
+        i -= 1;
+        let row = m.rows[i];
+        let pattern = row.pattern;
+        let next = tally(counts, n, pattern);
+        counts = next;
+    }
     fewest(counts, n)
 }
 
@@ -102,17 +94,24 @@ fn test_of(m: matrix::Matrix) -> rules::Cell
     requires { ⌜ Clean m × Cells (view m) × (done (view m) ≡ false) ⌝ }
     ensures { λ r. ⌜ cell (r .0) ≡ test (view m) ⌝ }
 {
+    let value = m.value;
     let column = column_of(m);
     let at = column.0;
-    let net = m.value[at];
+    let net = value[at];
     rules::Cell(net - 3)
 }
 
-fn set(m: matrix::Matrix, test: rules::Cell, bit: u8) -> matrix::Matrix
-    requires { ⌜ Clean m × (test .0 ≤ cell-max) ⌝ }
-    ensures { λ r. ⌜ r ≡ matrixFrom (assume (cell (test .0)) bit (view m)) ⌝ }
+// The nets alone: an arm has the rows of the matrix that it comes of.
+fn set(
+    value: [u16; rules::COLUMNS_MAX],
+    n: usize,
+    test: rules::Cell,
+    bit: u8,
+) -> [u16; rules::COLUMNS_MAX]
+    requires { ⌜ (n ≤ columns-max) × (test .0 ≤ cell-max) ⌝ }
+    ensures { λ r. ⌜ r ≡ mapTo (swap (cell (test .0)) bit) n value ⌝ }
 {
-    matrix::inner::step::assume(m, 3 + test.0, bit)
+    matrix::inner::step::assume_nets(value, n, 3 + test.0, bit)
 }
 
 // A matrix without rows has a row without rules in its first slot.
@@ -131,7 +130,7 @@ fn grow(m: matrix::Matrix, store: &mut [u16]) -> Built
     requires { ⌜ Good m × (length (now store) ≤ node-run * nodes-max) ⌝ }
     ensures { λ r. ⌜ Grown (rawOf (view m)) (now (store .entry)) (now (store .exit)) r ⌝ }
 {
-    let w = matrix::inner::normal::normalize(m);
+    let mut w = matrix::inner::normal::normalize(m);
     let n = w.columns;
     let k = w.count;
     if n == 0 {
@@ -141,15 +140,20 @@ fn grow(m: matrix::Matrix, store: &mut [u16]) -> Built
         return leaf_of(w, store);
     }
     let test = test_of(w);
+    let value = w.value;
+    let zeros = set(value, n, test, 0);
+    w.value = zeros;
     let Built::Done {
         root: _,
         size: zero,
-    } = grow(set(w, test, 0), store)
+    } = grow(w, store)
     else {
         return Built::Refused(NODES);
     };
     let at = tree::inner::NODE_RUN * zero;
-    let Built::Done { root: _, size: one } = grow(set(w, test, 1), &mut store[at..]) else {
+    let ones = set(value, n, test, 1);
+    w.value = ones;
+    let Built::Done { root: _, size: one } = grow(w, &mut store[at..]) else {
         return Built::Refused(NODES);
     };
     tree::inner::join(store, test, zero, one)

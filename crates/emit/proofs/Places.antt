@@ -1,7 +1,7 @@
 -- A tree handed in, and the answer where only the room is left to test. Assumes nothing.
 use Prim.Native.Nat.{ℕ, _+_, _*_, _/_, _≤_, _<_}
 use borrow.Author.Tests.{le-leb, le-ltb, leb-false, leb-true, lt-leb, lt-ltb}
-use lib.Dec.{leb}
+use lib.Dec.{eqb, leb}
 use lib.ListN.{length, length-append, take}
 use mathlib.Core.Bool.{Bool, true, false, not, _&&_, _||_}
 use mathlib.Core.List.{List, [], _∷_}
@@ -10,7 +10,7 @@ use mathlib.Core.Path.{_≡_, refl, sym, ap, ap₂, _∙_}
 use native.Mathlib.Nat.{mul-le-mul}
 use native.Mathlib.Omega.{arith}
 use Rattle.emit.proofs.Splits.{tests-low, tree-fine}
-use Rattle.emit.specs.Sends.{CanEmit, CanPlace, Sends, between, emittedFrom, placed, placedAfter}
+use Rattle.emit.specs.Sends.{CanEmit, CanPlace, Sends, between, emittedFrom, placed, placedAfter, roomNo}
 use Rattle.emit.specs.declared.inner.Sent.{Sent}
 use Rattle.evaluate.proofs.Turns.{table-room}
 use Rattle.lists.specs.Bools.{by-bool}
@@ -21,14 +21,14 @@ use Rattle.rules.proofs.Answers.{oneHot-wide}
 use Rattle.rules.proofs.Entries.{in-use-length}
 use Rattle.rules.proofs.Lowers.{added-is, added-length, nets-are}
 use Rattle.rules.proofs.Tables.{Fine}
-use Rattle.rules.specs.Answers.{added, checkAnswer, oneHotAfter, oneHotAnswer, prefixAnswer}
-use Rattle.rules.specs.Bounds.{cell-max, net-max, node-run, width-max}
+use Rattle.rules.specs.Answers.{added, checkAnswer, emission, emissionTable, oneHotAfter, oneHotAnswer, prefixAnswer}
+use Rattle.rules.specs.Bounds.{cell-max, net-max, node-run, nodes-max, width-max}
 use Rattle.rules.specs.Closed.{emits, muxes, netsOf}
 use Rattle.rules.specs.Emit.{Gives, Mux, appended, badTable, emitted, inUse, oneHot, room}
 use Rattle.rules.specs.Nets.{cell, isName, isNet, over}
 use Rattle.rules.specs.Prefix.{prefix}
-use Rattle.rules.specs.Refusals.{allLow, noRoom, treeIn}
-use Rattle.rules.specs.Refuse.{FORM, NET, ROOM, WIDTH, done, refused}
+use Rattle.rules.specs.Refusals.{allLow, noRoom, oneHotTable, treeIn}
+use Rattle.rules.specs.Refuse.{FORM, NET, ROOM, WIDTH, done, refusal, refused}
 use Rattle.rules.specs.Store.{isNone, treeAt, used}
 use Rattle.rules.specs.Tree.{Tree, branches, fine, leaf, node, size}
 use Rattle.tree.proofs.Handed.{Handed, checked, handed-ends, tree-at-size, tree-handed, unchecked}
@@ -39,7 +39,7 @@ use Rattle.tree.specs.declared.Checked.{Checked}
 
 -- ---- codes in a range
 
-all-same : (f g : ℕ → Bool) → ((n : ℕ) → f n ≡ g n) → (l : List ℕ) → all f l ≡ all g l
+pub all-same : {A : Type 0} (f g : A → Bool) → ((x : A) → f x ≡ g x) → (l : List A) → all f l ≡ all g l
 all-same f g h [] = refl
 all-same f g h (x ∷ l) = rw (h x, all-same f g h l)
 
@@ -52,11 +52,17 @@ below-is a n =
 zero-le : (n : ℕ) → leb 0 n ≡ true
 zero-le n = le-leb 0 n (omega arith)
 
-pub nets-in : (l : List ℕ) → all (between 0 (cell net-max)) l ≡ all isNet l
-nets-in l = all-same (between 0 (cell net-max)) isNet (λ n. rw (zero-le n)) l
+pub net-in : (n : ℕ) → between 0 (cell net-max) n ≡ isNet n
+net-in n = rw (zero-le n)
 
-pub names-in : (l : List ℕ) → all (between 3 (cell cell-max)) l ≡ all isName l
-names-in l = all-same (between 3 (cell cell-max)) isName (λ n. ap (λ (b : Bool). leb 3 n && b) (below-is (cell cell-max) n)) l
+pub nets-in : (l : List ℕ) → all (between 0 (cell net-max)) l ≡ all isNet l
+nets-in l = all-same (between 0 (cell net-max)) isNet net-in l
+
+pub name-in : (n : ℕ) → between (cell 0) (cell cell-max) n ≡ isName n
+name-in n = ap (λ (b : Bool). leb (cell 0) n && b) (below-is (cell cell-max) n)
+
+pub names-in : (l : List ℕ) → all (between (cell 0) (cell cell-max)) l ≡ all isName l
+names-in l = all-same (between (cell 0) (cell cell-max)) isName name-in l
 
 pub low-in : (l : List ℕ) → all (between 0 (cell cell-max)) l ≡ allLow l
 low-in l = all-same (between 0 (cell cell-max)) (λ (n : ℕ). not (over n)) (λ n. rw (zero-le n) (below-is (cell cell-max) n)) l
@@ -96,8 +102,8 @@ module _ (g : Gives) (w : ℕ) (store : List ℕ) (root count : ℕ) (table : Li
       let h : (root + 1) / 2 ≡ branches tree = omega (arith, s, size-odd tree) in
       ap (λ (n : ℕ). n * w) h ∙ sym (muxes-are w tree)
 
-  pub need-small : (root + 1) / 2 * w ≤ 512 * width-max
-  need-small = let h : (root + 1) / 2 ≤ 512 = omega (arith, root-in) in mul-le-mul h (can .narrow)
+  pub need-small : (root + 1) / 2 * w ≤ nodes-max / 2 * width-max
+  need-small = let h : (root + 1) / 2 ≤ nodes-max / 2 = omega (arith, root-in) in mul-le-mul h (can .narrow)
 
   total : length (emitted g tree (inUse count table) .0) ≡ count + muxes w tree
   unfolding emitted
@@ -117,9 +123,9 @@ module _ (g : Gives) (w : ℕ) (store : List ℕ) (root count : ℕ) (table : Li
   unfolding placed placedAfter
   place-full h = (rw (full h), rw (full h))
 
-  -- what the recursion is asked
-  pub place-can : count + (root + 1) / 2 * w ≤ room table → CanEmit g w (take (node-run * (root + 1)) store) (length table) count
-  place-can h =
+  -- what the recursion is asked, at the count or an entry before it
+  pub place-can : (k : ℕ) → k ≤ count → count + (root + 1) / 2 * w ≤ room table → CanEmit g w (take (node-run * (root + 1)) store) (length table) k
+  place-can k b h =
       record {
         tree = tree;
         ends = handed-ends store root tree (can .there);
@@ -150,6 +156,19 @@ module _ (g : Gives) (w : ℕ) (store : List ℕ) (root count : ℕ) (table : Li
       let i3 : after ≡ appended count (added g tree count table) table = d .put ∙ ap (λ (m : List Mux). appended count m table) (sym a) in
       (rw f (λ j. record { no = 0; nets = i0 j; width = i1 j; used = i2 j }), rw f i3)
 
+-- ---- the number that the tests give is the answer's
+
+module _ (g : Gives) (store : List ℕ) (root count : ℕ) (table : List ℕ) (m : ℕ) where
+  -- a fault: its number, and the table as it was
+  pub fault : (n : ℕ) → m ≡ n → eqb n 0 ≡ false → (emittedFrom (refused n) ≡ emittedFrom (emission m g (treeIn store root) count table)) × (table ≡ emissionTable m g (treeIn store root) count table)
+  fault n e z = (rw (e, z), rw (e, z))
+
+  -- none but the room's
+  pub faultless : m ≡ roomNo g store root count table
+      → (placed g store root count table ≡ emission m g (treeIn store root) count table) × (placedAfter g store root count table ≡ emissionTable m g (treeIn store root) count table)
+  unfolding placed placedAfter
+  faultless e = (ap (λ (n : ℕ). emission n g (treeIn store root) count table) (sym e), ap (λ (n : ℕ). emissionTable n g (treeIn store root) count table) (sym e))
+
 -- ---- one-hot
 
 pub found-is : (o : Option Tree) (t : Tree) → o ≡ some t → isNone o ≡ false
@@ -159,26 +178,25 @@ module _ (store : List ℕ) (root : ℕ) (outs : List ℕ) (count : ℕ) (table 
   abbrev bad : Bool
   bad = isNone (treeAt store root) || (not (all isNet outs) || badTable count table)
 
+  abbrev number : ℕ
+  number = refusal (oneHotTable store root outs count table)
+
   pub hot-form : bad ≡ true → (emittedFrom (refused FORM) ≡ emittedFrom (oneHotAnswer store root outs count table)) × (table ≡ oneHotAfter store root outs count table)
   unfolding oneHotAnswer oneHotAfter
-  hot-form e = (rw e, rw e)
+  hot-form e = fault (oneHot outs) store root count table number FORM (rw e) refl
 
   pub hot-net : bad ≡ false → all isName outs ≡ false → (emittedFrom (refused NET) ≡ emittedFrom (oneHotAnswer store root outs count table)) × (table ≡ oneHotAfter store root outs count table)
   unfolding oneHotAnswer oneHotAfter
-  hot-net e n = (rw (e, n), rw (e, n))
+  hot-net e n = fault (oneHot outs) store root count table number NET (rw (e, n)) refl
 
   pub hot-width : bad ≡ false → all isName outs ≡ true → width-max < length outs → (emittedFrom (refused WIDTH) ≡ emittedFrom (oneHotAnswer store root outs count table)) × (table ≡ oneHotAfter store root outs count table)
   unfolding oneHotAnswer oneHotAfter
-  hot-width e n h = let w = lt-ltb width-max (length outs) h in (rw (e, n, w), rw (e, n, w))
+  hot-width e n h = fault (oneHot outs) store root count table number WIDTH (rw (e, n, lt-ltb width-max (length outs) h)) refl
 
   pub hot-place : bad ≡ false → all isName outs ≡ true → length outs ≤ width-max
       → (placed (oneHot outs) store root count table ≡ oneHotAnswer store root outs count table) × (placedAfter (oneHot outs) store root count table ≡ oneHotAfter store root outs count table)
-  unfolding oneHotAnswer oneHotAfter placed placedAfter
-  hot-place e n h =
-      let w = le-ltb width-max (length outs) h in (
-        by-bool (noRoom (oneHot outs) (treeIn store root) count table) (λ r. rw (e, n, w, r)) (λ r. rw (e, n, w, r)),
-        by-bool (noRoom (oneHot outs) (treeIn store root) count table) (λ r. rw (e, n, w, r)) (λ r. rw (e, n, w, r)),
-      )
+  unfolding oneHotAnswer oneHotAfter
+  hot-place e n h = faultless (oneHot outs) store root count table number (rw (e, n, le-ltb width-max (length outs) h))
 
   pub hot-can : treeAt store root ≡ some (treeIn store root) → badTable count table ≡ false → length outs ≤ width-max → CanPlace (oneHot outs) (length outs) store root count table
   hot-can t b h = record { there = t; wide = oneHot-wide outs; narrow = h; formed = b }

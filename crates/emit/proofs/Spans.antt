@@ -30,7 +30,7 @@ drop-min n m l e =
     (λ p. let h = ltb-true m (length l) p in let i : n ≡ m = omega arith in ap (λ (k : ℕ). drop k l) i)
     (λ p. let h = ltb-false m (length l) p in let i : length l ≤ n = omega arith in drop-of-length-le l i ∙ sym (drop-of-length-le l h))
 
-abbrev up : ℕ → List ℕ → Update
+abbrev pub up : ℕ → List ℕ → Update
 up n bs = record { target = n; bits = bs }
 
 pub updates-more : (i p w : ℕ) (ns ws bs : List ℕ) → i < length ns → w ≡ min (getD ws i 0) (length bs - p)

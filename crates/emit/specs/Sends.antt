@@ -1,6 +1,6 @@
 -- What the recursion of emission is asked and does, and what an answer says. Assumes nothing: these are definitions.
 use Prim.Native.Nat.{ℕ, _+_, _*_, _≤_}
-use lib.Dec.{leb}
+use lib.Dec.{eqb, leb}
 use lib.ListN.{drop, length, take}
 use mathlib.Core.Bool.{Bool, true, false, cond, _&&_}
 use mathlib.Core.List.{List, []}
@@ -11,11 +11,12 @@ use Rattle.emit.specs.declared.Together.the-variants.{Length, Refused}
 use Rattle.emit.specs.declared.Together.{Together}
 use Rattle.emit.specs.declared.inner.Sent.{Sent}
 use Rattle.emit.specs.declared.inner.Span.{Span}
+use Rattle.lists.specs.Lists.{all}
 use Rattle.lists.specs.Vec.{vec}
 use Rattle.rules.specs.Answers.{emission, emissionTable}
 use Rattle.rules.specs.Bounds.{mux-max, mux-run, width-max}
 use Rattle.rules.specs.Closed.{Wide, branch, drives, emits, muxes, netsOf}
-use Rattle.rules.specs.Emit.{Gives, appended, badTable, disjoint, oneHot, updatesOf}
+use Rattle.rules.specs.Emit.{Gives, Update, appended, badTable, disjoint, oneHot, updatesOf}
 use Rattle.rules.specs.Refusals.{noRoom, treeIn}
 use Rattle.rules.specs.Refuse.{Outcome, ROOM, done, refused}
 use Rattle.rules.specs.Store.{treeAt}
@@ -68,6 +69,14 @@ placedAfter g store root count table = emissionTable (roomNo g store root count 
 -- a code in a range
 abbrev pub between : ℕ → ℕ → ℕ → Bool
 between a b n = leb a n && leb n b
+
+-- an update's net in a range, and its bits up to a code
+abbrev pub updateIn : ℕ → ℕ → ℕ → Update → Bool
+updateIn a b c u = between a b (u .target) && all (between 0 c) (u .bits)
+
+-- an update of w bits
+abbrev pub updateWide : ℕ → Update → Bool
+updateWide w u = eqb (length (u .bits)) w
 
 -- the bits of an update, where there is one
 abbrev pub spanBits : List ℕ → Span → Option (List ℕ)

@@ -139,7 +139,7 @@ fn update_for(net: usize, nets: &[u16], widths: &[usize], bits: &[u16]) -> Span
 }
 
 // An update's width is cut to the bits that are left, and 0 where none is given.
-fn cut_width(widths: &[usize], i: usize, rest: usize) -> usize
+pub fn cut_width(widths: &[usize], i: usize, rest: usize) -> usize
     ensures { λ r. ⌜ r ≡ min (getD (now (widths .entry)) i 0) rest ⌝ }
 {
     if widths.len() <= i {

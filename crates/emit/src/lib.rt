@@ -2,14 +2,16 @@
 // It evaluates nothing and simplifies nothing.
 ghost use lib.ListN.{length};
 ghost use mathlib.Core.Path.{_≡_};
-ghost use Rattle.emit.specs.Sends.{CanPlace, between, emittedFrom, gives, placed, placedAfter, prefixRead};
+ghost use Rattle.emit.specs.Sends.{CanPlace, between, emittedFrom, gives, placed, placedAfter, prefixRead, updateIn, updateWide};
 ghost use Rattle.lists.specs.Lists.{all};
-ghost use Rattle.rules.specs.Answers.{oneHotAfter, oneHotAnswer, prefixAnswer};
+ghost use Rattle.rules.specs.Answers.{disjointAfter, disjointAnswer, oneHotAfter, oneHotAnswer, prefixAnswer};
+ghost use Rattle.rules.specs.Emit.{updatesOf};
 ghost use Rattle.rules.specs.Refuse.{refused};
 
 pub mod inner;
 
 // The number, 0 where accepted; the nets of the value with 0 after them, how many, and the entries then in use.
+#[repr(C)]
 pub struct Emitted {
     pub no: u8,
     pub nets: [u16; rules::WIDTH_MAX],
@@ -26,6 +28,8 @@ pub enum Together {
 const NET: u8 = 4;
 
 const WIDTH: u8 = 8;
+
+const OVERLAP: u8 = 9;
 
 const ROOM: u8 = 10;
 
@@ -98,6 +102,105 @@ pub fn one_hot(
         count,
         table,
     )
+}
+
+// Leaves give the update of their rule that has one, else the default; a later update for a net replaces an earlier.
+// Updates are lent as their nets, their widths, and their bits end to end.
+pub fn disjoint(
+    store: &[u16],
+    root: rules::Place,
+    nets: &[u16],
+    widths: &[usize],
+    bits: &[u16],
+    default: &[u16],
+    count: usize,
+    table: &mut [u16],
+) -> Emitted
+    ensures { λ r. ⌜ (r ≡ emittedFrom (disjointAnswer (now (store .entry)) (root .0) (now (nets .entry)) (now (widths .entry)) (now (bits .entry)) (now (default .entry)) count (now (table .entry)))) × (now (table .exit) ≡ disjointAfter (now (store .entry)) (root .0) (now (nets .entry)) (now (widths .entry)) (now (bits .entry)) (now (default .entry)) count (now (table .entry))) ⌝ }
+{
+    let tree::Checked::Tree(_) = tree::check(store, root) else {
+        return refuse(FORM);
+    };
+    if !updates_between(nets, widths, bits, 0, LAST_NET, LAST_NET) {
+        return refuse(FORM);
+    }
+    if !all_between(default, 0, LAST_NET) {
+        return refuse(FORM);
+    }
+    if !evaluate::inner::formed(table, count) {
+        return refuse(FORM);
+    }
+    if !updates_between(nets, widths, bits, FIRST_CELL, LAST_CELL, LAST_CELL) {
+        return refuse(NET);
+    }
+    if !all_between(default, 0, LAST_CELL) {
+        return refuse(NET);
+    }
+    if rules::WIDTH_MAX < default.len() {
+        return refuse(WIDTH);
+    }
+    if !updates_wide(nets, widths, bits, default.len()) {
+        return refuse(WIDTH);
+    }
+    let k = tree::inner::NODE_RUN * (root.0 + 1);
+    if inner::some_leaf(&store[..k], false, nets, widths, bits) {
+        return refuse(OVERLAP);
+    }
+    place(
+        store,
+        root,
+        false,
+        nets,
+        widths,
+        bits,
+        default,
+        count,
+        table,
+    )
+}
+
+// Whether every update's net is in a range, and its bits have codes up to the top one.
+fn updates_between(
+    nets: &[u16],
+    widths: &[usize],
+    bits: &[u16],
+    first: u16,
+    last: u16,
+    top: u16,
+) -> bool
+    ensures { λ r. ⌜ r ≡ all (updateIn first last top) (updatesOf (now (nets .entry)) (now (widths .entry)) (now (bits .entry))) ⌝ }
+{
+    let mut p = 0;
+    let mut i = 0;
+    while i < nets.len() {
+        let e = p + inner::cut_width(widths, i, bits.len() - p);
+        if !in_range(nets[i], first, last) {
+            return false;
+        }
+        if !all_between(&bits[p..e], 0, top) {
+            return false;
+        }
+        p = e;
+        i += 1;
+    }
+    true
+}
+
+// Whether every update has so many bits.
+fn updates_wide(nets: &[u16], widths: &[usize], bits: &[u16], width: usize) -> bool
+    ensures { λ r. ⌜ r ≡ all (updateWide width) (updatesOf (now (nets .entry)) (now (widths .entry)) (now (bits .entry))) ⌝ }
+{
+    let mut p = 0;
+    let mut i = 0;
+    while i < nets.len() {
+        let w = inner::cut_width(widths, i, bits.len() - p);
+        if w != width {
+            return false;
+        }
+        p += w;
+        i += 1;
+    }
+    true
 }
 
 // How many enables, from the first on, may stand together: no leaf names two positions.

@@ -4,14 +4,13 @@ use lib.Dec.{eqb}
 use lib.ListN.{getD, length, set, take}
 use lib.Seq.{ext-getD, take-all}
 use mathlib.Core.Bool.{_&&_, _||_, Bool, false, not, true}
-use mathlib.Core.List.{[], _∷_, List}
+use mathlib.Core.List.{[], _++_, _∷_, List}
 use mathlib.Core.Path.{_∙_, _≡_, ap, ap₂, refl, sym}
 use native.Mathlib.Nat.{add-zero, le-of-suc-le-suc, not-suc-le-zero}
-use native.Mathlib.Numerals.{add-one}
 use native.Mathlib.Omega.{arith}
 use Prim.Native.Nat.{_+_, _<_, _≤_, suc, zero, ℕ}
 use Rattle.lists.specs.Vec.{fill, getD-vec, vec}
-use Rattle.matrix.proofs.StepHeld.{getD-any, none-row}
+use Rattle.matrix.proofs.StepHeld.{getD-any}
 use Rattle.rows.proofs.Laws.{length-flags}
 use Rattle.rows.specs.Rows.{flags, flagsFrom}
 use Rattle.rules.specs.Codes.{tritCode}
@@ -53,17 +52,16 @@ module _ (go : ℕ → ℕ → Bool) where
 abbrev pub used : List Row → ℕ → ℕ → Bool
 used rs j n = not (xAt rs j)
 
-x-take : (rs : List Row) (i j : ℕ) → i < length rs → xAt (take (suc i) rs) j ≡ (xAt (take i rs) j && isX (getD (getD rs i none-row .pattern) j 2))
+x-more : (rs : List Row) (r : Row) (j : ℕ) → xAt (rs ++ (r ∷ [])) j ≡ (xAt rs j && isX (getD (r .pattern) j 2))
 unfolding xAt
-x-take [] i j h = absurd (not-suc-le-zero h)
-x-take (r ∷ rs) zero j h = last (isX (getD (r .pattern) j 2))
+x-more [] r j = last (isX (getD (r .pattern) j 2))
   where
     last : (b : Bool) → (b && true) ≡ b
     last true = refl
     last false = refl
-x-take (r ∷ rs) (suc i) j h =
-    ap (λ (b : Bool). isX (getD (r .pattern) j 2) && b) (x-take rs i j (le-of-suc-le-suc h))
-    ∙ sym (assoc (isX (getD (r .pattern) j 2)) (xAt (take i rs) j) (isX (getD (getD rs i none-row .pattern) j 2)))
+x-more (q ∷ rs) r j =
+    ap (λ (b : Bool). isX (getD (q .pattern) j 2) && b) (x-more rs r j)
+    ∙ sym (assoc (isX (getD (q .pattern) j 2)) (xAt rs j) (isX (getD (r .pattern) j 2)))
   where
     assoc : (a b d : Bool) → ((a && b) && d) ≡ (a && (b && d))
     assoc true b d = refl
@@ -82,20 +80,20 @@ pub used-at : (N : ℕ) (ns : List ℕ) (rs : List Row) (a : List Bool) (j : ℕ
 used-at N ns rs a j w h e = ap (λ (v : List Bool). getD v j false) e ∙ getD-vec N false (flags (used rs) ns) j (omega arith) ∙ flag-at (used rs) ns j false h
 
 -- a row more
-pub used-turn : (N : ℕ) (ns q : List ℕ) (rs : List Row) (i : ℕ) (a : List Bool) → length ns ≤ N → i < length rs → q ≡ getD rs i none-row .pattern → length q ≡ length ns
-    → a ≡ vec N false (flags (used (take i rs)) ns) → flags (λ (j mask : ℕ). getD a j false || not (isX mask)) q ≡ flags (used (take (i + 1) rs)) ns
-used-turn N ns q rs i a w h p l e =
+pub used-more : (N : ℕ) (ns : List ℕ) (rs : List Row) (r : Row) (a : List Bool) → length ns ≤ N → length (r .pattern) ≡ length ns → a ≡ vec N false (flags (used rs) ns)
+    → flags (λ (j mask : ℕ). getD a j false || not (isX mask)) (r .pattern) ≡ flags (used (rs ++ (r ∷ []))) ns
+used-more N ns rs r a w l e =
+    let q : List ℕ = r .pattern in
     let go : ℕ → ℕ → Bool = λ j mask. getD a j false || not (isX mask) in
     let x = length-flags go 0 q in
-    let y = length-flags (used (take (i + 1) rs)) 0 ns in
-    ext-getD false (flags go q) (flags (used (take (i + 1) rs)) ns) (omega arith)
+    let y = length-flags (used (rs ++ (r ∷ []))) 0 ns in
+    ext-getD false (flags go q) (flags (used (rs ++ (r ∷ []))) ns) (omega arith)
     (λ j k.
     let b : j < length ns = omega arith in
-    let u : getD a j false ≡ not (xAt (take i rs) j) = used-at N ns (take i rs) a j w b e in
-    let t : xAt (take (i + 1) rs) j ≡ (xAt (take i rs) j && isX (getD q j 0)) =
-    ap (λ (n : ℕ). xAt (take n rs) j) (add-one i) ∙ x-take rs i j h
-    ∙ ap (λ (m : ℕ). xAt (take i rs) j && isX m) (ap (λ (v : List ℕ). getD v j 2) (sym p) ∙ getD-any q j 2 0 (omega arith)) in
-    flag-at go q j false (omega arith) ∙ ap (λ (c : Bool). c || not (isX (getD q j 0))) u ∙ deep (xAt (take i rs) j) (isX (getD q j 0)) ∙ ap not (sym t) ∙ sym (flag-at (used (take (i + 1) rs)) ns j false b))
+    let u : getD a j false ≡ not (xAt rs j) = used-at N ns rs a j w b e in
+    let t : xAt (rs ++ (r ∷ [])) j ≡ (xAt rs j && isX (getD q j 0)) =
+    x-more rs r j ∙ ap (λ (m : ℕ). xAt rs j && isX m) (getD-any q j 2 0 (omega arith)) in
+    flag-at go q j false (omega arith) ∙ ap (λ (c : Bool). c || not (isX (getD q j 0))) u ∙ deep (xAt rs j) (isX (getD q j 0)) ∙ ap not (sym t) ∙ sym (flag-at (used (rs ++ (r ∷ []))) ns j false b))
   where
     deep : (c d : Bool) → (not c || not d) ≡ not (c && d)
     deep true d = refl
@@ -103,9 +101,23 @@ used-turn N ns q rs i a w h p l e =
 
 -- ---- the columns that go
 
-pub goes-is : (ns : List ℕ) (rs : List Row) (j x f : ℕ) (u : Bool) → x ≡ getD ns j 0 → f ≡ place (getD ns j 0) ns → u ≡ not (xAt rs j)
-    → (not (isCell x) || (not (eqb f j) || not u)) ≡ goes ns rs j (getD ns j 0)
-goes-is ns rs j x f u p q r = rw (p, q, r, twice (xAt rs j))
+-- by a flag for each column, where some row has no X
+abbrev pub goneBy : List ℕ → List Bool → ℕ → ℕ → Bool
+goneBy ns u j x = not (isCell x) || (not (eqb (place x ns) j) || not (getD u j false))
+
+pub gone-at : (ns : List ℕ) (u : List Bool) (j x f : ℕ) → x ≡ getD ns j 0 → f ≡ place (getD ns j 0) ns → (not (isCell x) || (not (eqb f j) || not (getD u j false))) ≡ goneBy ns u j (getD ns j 0)
+gone-at ns u j x f p q = rw (p, q)
+
+pub gone-is : (N : ℕ) (ns : List ℕ) (rs : List Row) (u : List Bool) → length ns ≤ N → u ≡ vec N false (flags (used rs) ns) → flags (goneBy ns u) ns ≡ flags (goes ns rs) ns
+gone-is N ns rs u w e =
+    let x = length-flags (goneBy ns u) 0 ns in
+    let y = length-flags (goes ns rs) 0 ns in
+    ext-getD false (flags (goneBy ns u) ns) (flags (goes ns rs) ns) (omega arith)
+    (λ j k.
+    let b : j < length ns = omega arith in
+    let n : ℕ = getD ns j 0 in
+    let t : not (getD u j false) ≡ xAt rs j = ap not (used-at N ns rs u j w b e) ∙ twice (xAt rs j) in
+    flag-at (goneBy ns u) ns j false b ∙ ap (λ (c : Bool). not (isCell n) || (not (eqb (place n ns) j) || c)) t ∙ sym (flag-at (goes ns rs) ns j false b))
   where
     twice : (b : Bool) → not (not b) ≡ b
     twice true = refl

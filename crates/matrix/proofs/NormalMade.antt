@@ -95,12 +95,12 @@ module _ (m t : Matrix) (c : Clean m) (e : t ≡ matrixFrom (walkedOf (view m)))
   pub settled-clean : Clean t × (view t ≡ walkedOf (view m))
   settled-clean = clean-is t (walkedOf (view m)) (sized-walked (view m) (c .sized)) e
 
-  pub normal-is : (r : Matrix) (gs : List Bool) → gs ≡ vec columns-max false (goneOf (view t)) → r ≡ matrixFrom (keptOf (take (t .columns) gs) (view t)) → r ≡ matrixFrom (normalize (view m))
+  pub normal-is : (r : Matrix) (gs : List Bool) → gs ≡ vec columns-max false (goneOf (walkedOf (view m))) → r ≡ matrixFrom (keptOf (take (t .columns) gs) (view t)) → r ≡ matrixFrom (normalize (view m))
   normal-is r gs g f =
       let s = settled-clean in
-      let l : length (goneOf (view t)) ≡ length (view t .nets) = length-flags (goes (view t .nets) (view t .rows)) 0 (view t .nets) in
-      let n : t .columns ≡ length (view t .nets) = ap (λ (x : Matrix). x .columns) (s .0 .tidy) in
-      let w = s .0 .sized .wide in
-      let k : take (t .columns) gs ≡ goneOf (view t) =
-      ap₂ (λ (i : ℕ) (b : List Bool). take i b) (n ∙ sym l) g ∙ take-vec columns-max false (goneOf (view t)) (omega arith) in
-      f ∙ ap (λ (b : List Bool). matrixFrom (keptOf b (view t))) k ∙ ap (λ (x : MatrixOf). matrixFrom (keptOf (goneOf x) x)) (s .1) ∙ ap matrixFrom (normalize-is (view m) (c .sized))
+      let w : MatrixOf = walkedOf (view m) in
+      let l : length (goneOf w) ≡ length (w .nets) = length-flags (goes (w .nets) (w .rows)) 0 (w .nets) in
+      let n : t .columns ≡ length (w .nets) = ap (λ (x : Matrix). x .columns) e in
+      let h : length (w .nets) ≤ columns-max = c .sized .wide in
+      let k : take (t .columns) gs ≡ goneOf w = ap₂ (λ (i : ℕ) (b : List Bool). take i b) (n ∙ sym l) g ∙ take-vec columns-max false (goneOf w) (omega arith) in
+      f ∙ ap (λ (b : List Bool). matrixFrom (keptOf b (view t))) k ∙ ap (λ (x : MatrixOf). matrixFrom (keptOf (goneOf w) x)) (s .1) ∙ ap matrixFrom (normalize-is (view m) (c .sized))

@@ -132,6 +132,3 @@ module _ (m : Matrix) (c : Clean m) (i : ℕ) (b : i < m .count) where
 
   pub row-pattern : take (m .columns) (getD (m .rows) i past .pattern) ≡ row .pattern
   row-pattern = ap (λ (n : ℕ). take n (getD (m .rows) i past .pattern)) (sym row-long) ∙ ap (λ (r : RowOf). r .pattern) row-view
-
-  pub row-clean : getD (m .rows) i past .pattern ≡ vec columns-max 0 (take (m .columns) (getD (m .rows) i past .pattern))
-  row-clean = ap (λ (r : Row). r .pattern) row-at ∙ ap (vec columns-max 0) (sym row-pattern)

@@ -23,18 +23,17 @@ use Rattle.rules.specs.Matrix.{addEnable, assume, off, Row as RowOf, swap, wide
 use Rattle.sets.specs.declared.Rules.{Rules}
 use Rattle.sets.specs.Sets.{rulesFrom}
 
-pub assumed : (m r : Matrix) (t b a i : ℕ) → Clean m → i ≡ m .columns → a ≡ b → r .value ≡ mapTo (swap t a) i (m .value) → r .columns ≡ m .columns → r .rows ≡ m .rows
-    → r .count ≡ m .count → r ≡ matrixFrom (assume t b (view m))
-assumed m r t b a i c e q v n s k =
+pub assumed : (m : Matrix) (t b : ℕ) (v : List ℕ) → Clean m → v ≡ mapTo (swap t b) (m .columns) (m .value)
+    → record { value = v; columns = m .columns; rows = m .rows; count = m .count } ≡ matrixFrom (assume t b (view m))
+assumed m t b v c e =
     let h = clean-held m c in
     let ns : List ℕ = view m .nets in
-    let w : mapTo (swap t a) i (m .value) ≡ mapTo (swap t b) (length ns) (vec columns-max 0 ns) = rw (e, q, ← h .columns, ← h .value) in
-    held-is r (map (swap t b) ns) (view m .rows)
+    held-is (record { value = v; columns = m .columns; rows = m .rows; count = m .count }) (map (swap t b) ns) (view m .rows)
     record {
-      value = v ∙ w ∙ mapTo-vec (swap t b) columns-max 0 ns (c .sized .wide);
-      columns = n ∙ h .columns ∙ sym (length-map ns (swap t b));
-      rows = s ∙ h .rows;
-      count = k ∙ h .count;
+      value = e ∙ ap₂ (mapTo (swap t b)) (h .columns) (h .value) ∙ mapTo-vec (swap t b) columns-max 0 ns (c .sized .wide);
+      columns = h .columns ∙ sym (length-map ns (swap t b));
+      rows = h .rows;
+      count = h .count;
     }
 
 pub row-path : (r s : Row) → r .pattern ≡ s .pattern → r .len ≡ s .len → r .rules ≡ s .rules → r ≡ s

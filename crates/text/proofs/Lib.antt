@@ -1,4 +1,5 @@
 pub mod Laws
+pub mod Lays
 pub mod Nets
 pub mod Numbers
 pub mod Prints
@@ -6,4 +7,5 @@ pub mod Reader
 pub mod Rows
 pub mod RowsIn
 pub mod Scans
+pub mod Trees
 pub mod Values

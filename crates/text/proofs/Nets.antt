@@ -17,6 +17,7 @@ use Rattle.rules.specs.Bytes.{byte}
 use Rattle.rules.specs.Nets.{cell, first-mux, isCell, number, over}
 use Rattle.rules.specs.Print.{digits, net, nets}
 use Rattle.text.proofs.Scans.{NoFigure, cell-printed, word-low, word-short}
+use Rattle.text.specs.Longs.{net-long}
 use Rattle.text.specs.Scan.{cellAt, figureOf, scanned, wordAt}
 use Rattle.text.specs.declared.inner.scan.Word.{Word}
 
@@ -43,7 +44,7 @@ pub record Sofar (s : List ℕ) (at : ℕ) (out₀ out : List ℕ) (k a : ℕ) :
   pub count : k ≡ length list
   pub joins : list ++ scanned (length out₀ - k) s a ≡ scanned (length out₀) s at
   pub few : k ≤ length out₀
-  pub near : a ≤ at + 6 * k
+  pub near : a ≤ at + net-long * k
   pub long : length out ≡ length out₀
 
 pub sofar-none : (s : List ℕ) (at : ℕ) (out : List ℕ) → Sofar s at out out 0 at

@@ -16,10 +16,11 @@ use Rattle.rules.proofs.Digits.{net-cell}
 use Rattle.rules.specs.Bytes.{byte, bytes}
 use Rattle.rules.specs.Codes.{tritCode}
 use Rattle.rules.specs.Nets.{cell, first-mux, isCell, number, over}
-use Rattle.rules.specs.Print.{digit, digits, grouped, net, nets, ruleText, trit}
+use Rattle.rules.specs.Print.{digit, digits, gap, grouped, net, nets, ruleText, trit}
 use Rattle.rules.specs.declared.Trit.{Trit}
 use Rattle.rules.specs.declared.Trit.the-variants.{Zero, One, Undef}
 use Rattle.trits.specs.Codes.{cut}
+use Rattle.text.specs.Put.{Room}
 use Rattle.text.specs.Texts.{downs, marked, spaced, trits}
 
 module _ (n : ℕ) where
@@ -129,6 +130,11 @@ module _ (i x : ℕ) where
   pub marked-yes : (i ≡ 0 → ⊥) → i % 4 ≡ 0 → marked i x ≡ byte "_" ∷ trit x ∷ []
   unfolding marked
   marked-yes h e = rw (ne-eqb i 0 h, eq-eqb (i % 4) 0 e)
+
+-- the room for a trit is that for any other in its place
+pub marked-room : (d : List ℕ) (at i x y : ℕ) → Room d at (marked i y) → Room d at (marked i x)
+unfolding marked
+marked-room d at i x y h = by-bool (gap i) (λ p. rw p (rw p at h)) (λ p. rw p (rw p at h))
 
 pub trits-start : (p : List ℕ) → trits p ≡ grouped (length p - length p) (reverse (take (length p) p))
 unfolding trits

@@ -139,7 +139,7 @@ module _ (m : Matrix) (e : refusal (matrixTable (mat.given m)) ≡ 0) where
 
 -- ---- the bytes
 
-put-front : (d bs e : List ℕ) (r : ℕ) → Put d 0 bs e r → e ≡ bs ++ drop (length bs) d
+pub put-front : (d bs e : List ℕ) (r : ℕ) → Put d 0 bs e r → e ≡ bs ++ drop (length bs) d
 unfolding putAt
 put-front d bs e r p = p .text ∙ ap (λ (k : ℕ). bs ++ drop k d) (zero-add (length bs))
 

@@ -28,6 +28,7 @@ use Rattle.text.proofs.Nets.{scan-few, scan-printed, scan-stop, word-fr
 use Rattle.text.proofs.Prints.{names-low}
 use Rattle.text.proofs.Rows.{arrow, margin, row-is, row-long}
 use Rattle.text.proofs.Values.{nets-few}
+use Rattle.text.specs.Longs.{row-max, rules-long}
 use Rattle.text.specs.Scan.{figureOf, looseRow, patternAt, rulesAt, scanned, wordAt}
 use Rattle.text.specs.Taken.{bare, rowTaken}
 use Rattle.text.specs.Texts.{RowFits, trits}
@@ -225,7 +226,7 @@ module _ (w : ℕ) (l : List ℕ) where
       let m = n ∙ sym (pattern-long w l) in
       λ i. record { pattern = p i; len = m i; rules = record { items = r i; count = c i } }
 
-rules-few : (rs : List ℕ) → length rs ≤ rules-max → length (ruleText rs) ≤ 48
+pub rules-few : (rs : List ℕ) → length rs ≤ rules-max → length (ruleText rs) ≤ rules-long
 unfolding bytes ruleText
 rules-few [] h = omega arith
 rules-few (n ∷ ns) h = omega (arith, nets-few (n ∷ ns))
@@ -252,7 +253,7 @@ module _ (w : ℕ) (l : List ℕ) (s : Struct) (few : w ≤ columns-max) (e : s 
         low = names-low (listOf (s .rules)) n;
       }
 
-  pub row-few : length (rowLine (view s)) ≤ 73
+  pub row-few : length (rowLine (view s)) ≤ row-max
   unfolding looseRow trits
   row-few =
       let q = looseRow w l in

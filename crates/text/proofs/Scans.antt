@@ -14,6 +14,7 @@ use Rattle.rules.specs.Bytes.{byte}
 use Rattle.rules.specs.Nets.{cell, first-mux}
 use Rattle.rules.specs.Print.{digit, digits}
 use Rattle.text.proofs.Numbers.{digits-1, digits-2, digits-3, digits-4}
+use Rattle.text.specs.Longs.{net-long}
 use Rattle.text.specs.Scan.{cellAt, cellOf, figureOf, noWord, wordAt}
 
 -- ---- figures
@@ -67,7 +68,7 @@ module _ (a b c d : ℕ) where
       rw r (by-bool (ltb 9 d) (λ s. rw s (omega arith))
       (λ s. let k = ltb-false 9 d s in rw s (omega arith))))))))
 
-  cell-short : cellOf a b c d .len ≤ 6
+  cell-short : cellOf a b c d .len ≤ net-long
   unfolding cellOf
   cell-short =
       by-bool (ltb 9 a) (λ p. rw p (omega arith))
@@ -147,7 +148,7 @@ word-low s at =
     (λ u. rw u (by-bool (eqb (getD s (at + 1) 0) (byte "X")) (λ v. rw v (omega arith)) (λ v. rw v (omega arith))))))))))
     (λ p. rw p (omega arith))
 
-pub word-short : (s : List ℕ) (at : ℕ) → wordAt s at .len ≤ 6
+pub word-short : (s : List ℕ) (at : ℕ) → wordAt s at .len ≤ net-long
 unfolding wordAt cellAt
 word-short s at =
     let l = cell-short (figureOf (getD s (at + 2) 0)) (figureOf (getD s (at + 2 + 1) 0)) (figureOf (getD s (at + 2 + 2) 0)) (figureOf (getD s (at + 2 + 3) 0)) in

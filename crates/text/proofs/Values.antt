@@ -2,31 +2,35 @@
 use Prim.Native.Nat.{ℕ, zero, suc, _+_, _-_, _*_, _≤_, _<_}
 use borrow.Author.Tests.{le-leb, leb-true}
 use lib.Dec.{leb, ltb}
-use lib.ListN.{drop, getD, length, length-append, length-reverse, replicate, set, take}
+use lib.ListN.{drop, drop-of-length-le, getD, length, length-append, length-drop, length-reverse, replicate, set, take, take-append-drop}
 use lib.Seq.{length-take-le, take-all, take-at}
 use mathlib.Core.Bool.{Bool, true, false, not, cond, _&&_}
 use mathlib.Core.List.{List, [], _∷_, _++_, reverse, reverse-cons, reverse-reverse}
-use mathlib.Core.Path.{_≡_, refl, sym, ap, _∙_, subst}
+use mathlib.Core.Path.{_≡_, refl, sym, ap, ap₂, _∙_, subst}
 use native.Mathlib.Omega.{arith}
-use Rattle.lists.specs.Bools.{and-both, and-left, and-right, by-bool}
+use Rattle.lists.specs.Bools.{and-both, and-left, and-right, by-bool, clash}
 use Rattle.lists.specs.Lists.{all, same, same-refl, same-true}
 use Rattle.lists.specs.Vec.{fill, length-vec, take-vec, vec}
 use Rattle.rows.specs.Rows.{netsFrom}
 use Rattle.rows.specs.declared.Nets.{Nets}
 use Rattle.rules.proofs.Words.{nets-in}
 use Rattle.rules.specs.Bounds.{columns-max, rules-max}
-use Rattle.rules.specs.Bytes.{byte}
+use Rattle.rules.specs.Bytes.{byte, bytes}
 use Rattle.rules.specs.Nets.{isCell, number, over}
-use Rattle.rules.specs.Print.{digits, net, nets, valueLine}
+use Rattle.rules.specs.Print.{digits, net, nets, ruleText, valueLine}
 use Rattle.rules.specs.Read.{isValueLine, netsIn}
 use Rattle.rules.specs.Refusals.{allLow}
 use Rattle.sets.specs.Sets.{rulesFrom}
-use Rattle.text.proofs.Nets.{scan-few, scan-low, scan-printed}
+use Rattle.sets.specs.declared.Rules.{Rules}
+use Rattle.text.proofs.Nets.{scan-few, scan-low, scan-printed, scan-stop, word-front}
 use Rattle.text.proofs.Numbers.{reverse-take}
 use Rattle.text.proofs.Rows.{closing, value-is, value-long}
+use Rattle.text.specs.Longs.{net-long, value-max}
 use Rattle.text.specs.Scan.{figureOf, looseNets, scanned, wordAt}
 use Rattle.text.specs.Taken.{valueTaken}
 use Rattle.text.specs.Texts.{downs}
+use Rattle.text.specs.Trees.{ruleEnd}
+use Rattle.text.specs.declared.inner.scan.Word.{Word}
 
 abbrev low : ℕ → Bool
 low n = not (over n)
@@ -159,16 +163,16 @@ digits-few n =
     (λ p. rw p (by-bool (ltb n 100) (λ q. rw q (omega arith))
     (λ q. rw q (by-bool (ltb n 1000) (λ r. rw r (omega arith)) (λ r. rw r (omega arith))))))
 
-net-few : (n : ℕ) → length (net n) < 6
+pub net-few : (n : ℕ) → length (net n) < net-long
 unfolding net
 net-few n = let d = digits-few (number n) in by-bool (isCell n) (λ p. rw p (omega arith)) (λ p. rw p (omega arith))
 
-pub nets-few : (ns : List ℕ) → length (nets ns) ≤ 6 * length ns
+pub nets-few : (ns : List ℕ) → length (nets ns) ≤ net-long * length ns
 unfolding nets
 nets-few [] = omega arith
 nets-few (n ∷ ns) = omega (arith, net-few n, nets-few ns, length-append (byte " " ∷ net n) (nets ns))
 
-pub value-few : (ns : List ℕ) → length ns ≤ columns-max → length (valueLine ns) ≤ 101
+pub value-few : (ns : List ℕ) → length ns ≤ columns-max → length (valueLine ns) ≤ value-max
 unfolding downs
 value-few ns h = omega (arith, nets-few (reverse ns), length-reverse ns, value-long ns)
 
@@ -181,5 +185,32 @@ names-made l at f r e q =
     let a : f ≡ vec rules-max 0 n = e ∙ ap (λ (k : ℕ). n ++ drop k (replicate rules-max 0)) q ∙ vec-drop rules-max n (scan-few rules-max l at) in
     λ i. record { items = a i; count = q i }
 
-pub struct-short : (l : List ℕ) (ns : Nets) → ns ≡ netsFrom (looseNets l) → length (valueLine (take (ns .columns) (ns .value))) ≤ 101
-struct-short l ns e = subst (λ (k : List ℕ). length (valueLine k) ≤ 101) (sym (struct-nets l ns e)) (value-few (looseNets l) (loose-few l))
+-- the fixed bytes for no rules, where a line ends in them
+
+pub empty-past : (at : ℕ) (l : List ℕ) → length l < at → false ≡ same (drop at l) (ruleEnd [])
+unfolding bytes ruleText same
+empty-past at l h = let k : length l ≤ at = omega arith in sym (ap (λ (d : List ℕ). same d (ruleEnd [])) (drop-of-length-le l k))
+
+pub empty-is : (at : ℕ) (l : List ℕ) (r : Bool) → (r ≡ true → take (length l - at) (drop at l) ≡ ruleEnd []) → (take (length l - at) (drop at l) ≡ ruleEnd [] → r ≡ true) → r ≡ same (drop at l) (ruleEnd [])
+empty-is at l r yes-it no-it =
+    let w : take (length l - at) (drop at l) ≡ drop at l = take-all (length l - at) (drop at l) (omega (arith, length-drop at l)) in
+    by-bool r
+    (λ p. p ∙ sym (ap (λ (d : List ℕ). same d (ruleEnd [])) (sym w ∙ yes-it p) ∙ same-refl (ruleEnd [])))
+    (λ p. by-bool (same (drop at l) (ruleEnd []))
+    (λ q. absurd (clash (sym p ∙ no-it (w ∙ same-true (drop at l) (ruleEnd []) q))))
+    (λ q. p ∙ sym q))
+
+pub empty-none : (k at : ℕ) (l : List ℕ) → same (drop at l) (ruleEnd []) ≡ true → scanned k l at ≡ []
+unfolding bytes ruleText wordAt
+empty-none k at l h =
+    let e : drop at l ≡ ruleEnd [] = same-true (drop at l) (ruleEnd []) h in
+    let t : length (take at l) ≡ at = length-take-le at l (omega (arith, ap length e, length-drop at l)) in
+    let w : wordAt l at ≡ wordAt (ruleEnd []) 0 =
+    ap₂ wordAt (sym (take-append-drop at l) ∙ ap (λ (d : List ℕ). take at l ++ d) e) (sym t) ∙ word-front (take at l) (ruleEnd []) in
+    scan-stop k l at (ap (λ (x : Word). x .len) w)
+
+pub names-none : (l : List ℕ) (at : ℕ) (b : Bool) (r : Rules) → b ≡ same (drop at l) (ruleEnd []) → b ≡ true → r ≡ rulesFrom [] → r ≡ rulesFrom (scanned rules-max l at)
+names-none l at b r e h q = q ∙ ap rulesFrom (sym (empty-none rules-max at l (sym e ∙ h)))
+
+pub struct-short : (l : List ℕ) (ns : Nets) → ns ≡ netsFrom (looseNets l) → length (valueLine (take (ns .columns) (ns .value))) ≤ value-max
+struct-short l ns e = subst (λ (k : List ℕ). length (valueLine k) ≤ value-max) (sym (struct-nets l ns e)) (value-few (looseNets l) (loose-few l))

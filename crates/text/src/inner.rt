@@ -4,3 +4,4 @@ pub mod parse;
 pub mod put;
 pub mod reader;
 pub mod scan;
+pub mod trees;

@@ -2,7 +2,7 @@
 // Nothing here changes a matrix or a tree, and no byte is written before it is known that all fit.
 ghost use mathlib.Core.Path.{_≡_};
 ghost use Rattle.matrix.specs.Mat.{given};
-ghost use Rattle.rules.specs.Answers.{printAfter, printAnswer, readAnswer};
+ghost use Rattle.rules.specs.Answers.{printAfter, printAnswer, printTreeAfter, printTreeAnswer, readAnswer};
 ghost use Rattle.text.specs.Calls.{printedRead, readFrom};
 
 pub mod inner;
@@ -23,6 +23,8 @@ pub struct ReadMade {
 
 const ROOM: u8 = 10;
 
+const FORM: u8 = 12;
+
 // The bytes of the longest printed matrix.
 const TEXT_MAX: usize = 4773;
 
@@ -41,6 +43,24 @@ pub fn print(matrix: matrix::Matrix, out: &mut [u8]) -> Printed
     }
     inner::put::bytes(out, 0, &text[..n]);
     Printed::Done(n)
+}
+
+// The whole need is known before the first byte: the walk that writes has counted before.
+pub fn print_tree(store: &[u16], root: rules::Place, out: &mut [u8]) -> Printed
+    ensures { λ r. ⌜ printedRead r ≡ printTreeAnswer (now (store .entry)) (root .0) (now (out .entry)) ⌝ }
+    ensures { λ _. ⌜ now (out .exit) ≡ printTreeAfter (now (store .entry)) (root .0) (now (out .entry)) ⌝ }
+{
+    let tree::Checked::Tree(_) = tree::check(store, root) else {
+        return Printed::Refused(FORM);
+    };
+    let k = tree::inner::NODE_RUN * (root.0 + 1);
+    let mut none = [0u8; 1];
+    let need = inner::trees::whole(&store[..k], &mut none);
+    if out.len() < need {
+        return Printed::Refused(ROOM);
+    }
+    inner::trees::whole(&store[..k], out);
+    Printed::Done(need)
 }
 
 pub fn read(text: &[u8]) -> ReadMade

@@ -18,9 +18,14 @@ use Rattle.dispatch.proofs.set.Reads as set-reads
 use Rattle.dispatch.proofs.Splits.{arm-falls, arm-good, arms-stand, arms-tree, leaf-columns, leaf-rows, normal-clean, normal-good, normal-is, normal-open, normal-tests, Split, split-low, zero-tree}
 use Rattle.dispatch.proofs.test_of.Reads as test-of-reads
 use Rattle.matrix.proofs.inner.normal.normalize.Reads as normalize-reads
-use Rattle.matrix.specs.Mat.{view}
+use Rattle.matrix.proofs.StepHeld.{clean-wide}
+use Rattle.matrix.proofs.StepLaws.{assumed}
+use Rattle.matrix.specs.declared.Matrix.{Matrix}
+use Rattle.matrix.specs.Mat.{matrixFrom, view}
 use Rattle.rules.specs.Bounds.{node-run}
 use Rattle.rules.specs.Dispatch.{distinct, rawOf}
+use Rattle.rules.specs.Matrix.{assume}
+use Rattle.rules.specs.Nets.{cell}
 use Rattle.rules.specs.Tree.{reduce}
 use Rattle.tree.proofs.Grows.{gave-up, Took, took, up-join, up-one, up-zero}
 use Rattle.tree.proofs.inner.join.Reads as join-reads
@@ -60,11 +65,30 @@ split t c =
     let e = c .before .before .before .normalize .ensures in
     record { good = normal-good m w g e; normal = normal-is m w g e; more = normal-open m w g e (c .before .before .if1 .left) (c .before .if2 .left); test-is = c .test-of .ensures }
 
+-- the arms' matrices: the nets that were set, with the rows of the normal form
+abbrev zeros : (t : ℕ) (c : grow-lts.After-set (calls t) (grow-at t) grow.Post) → Matrix
+zeros t c =
+    let w = c .before .before .before .before .before .normalize .result in
+    record { value = c .set .result; columns = w .columns; rows = w .rows; count = w .count }
+
+zero-is : (t : ℕ) (c : grow-lts.After-set (calls t) (grow-at t) grow.Post)
+    → zeros t c ≡ matrixFrom (assume (cell (c .before .before .test-of .result .0)) 0 (view (c .before .before .before .before .before .normalize .result)))
+zero-is t c = assumed (c .before .before .before .before .before .normalize .result) _ 0 _ (split t (c .before .before) .good .clean) (c .set .ensures)
+
+abbrev ones : (t : ℕ) (c : grow-lts.After-set2 (calls t) (grow-at t) grow.Post) → Matrix
+ones t c =
+    let w = c .before .before .before .before .before .before .before .before .before .before .before .before .before .normalize .result in
+    record { value = c .set2 .result; columns = w .columns; rows = w .rows; count = w .count }
+
+one-is : (t : ℕ) (c : grow-lts.After-set2 (calls t) (grow-at t) grow.Post)
+    → ones t c ≡ matrixFrom (assume (cell (c .before .before .before .before .before .before .before .before .before .before .test-of .result .0)) 1 (view (c .before .before .before .before .before .before .before .before .before .before .before .before .before .normalize .result)))
+one-is t c = assumed (c .before .before .before .before .before .before .before .before .before .before .before .before .before .normalize .result) _ 1 _ (split t (c .before .before .before .before .before .before .before .before .before .before) .good .clean) (c .set2 .ensures)
+
 -- after the zero arm, and after the one arm
 zero-took : (t : ℕ) (c : grow-lts.After-known-told (calls t) (grow-at t) grow.Post)
-    → Took (rawOf (view (c .before .before .before .before .before .before .before .set .result))) (c .before .before .before .before .before .before .before .before .before .before .before .before .before .args .store .now) (c .before .before .before .before .before .grow .last .1 .0) (c .before .zero .given .0 .1 .0)
+    → Took (rawOf (view (zeros t (c .before .before .before .before .before .before .before)))) (c .before .before .before .before .before .before .before .before .before .before .before .before .before .before .args .store .now) (c .before .before .before .before .before .grow .last .1 .0) (c .before .zero .given .0 .1 .0)
 zero-took t c =
-    took (rawOf (view (c .before .before .before .before .before .before .before .set .result))) (c .before .before .before .before .before .before .before .before .before .before .before .before .before .args .store .now) (c .before .before .before .before .before .grow .last .1 .0) (c .before .before .before .before .before .grow .result) _ _ (c .before .before .before .before .before .grow .ensures) (c .before .zero .given .1)
+    took (rawOf (view (zeros t (c .before .before .before .before .before .before .before)))) (c .before .before .before .before .before .before .before .before .before .before .before .before .before .before .args .store .now) (c .before .before .before .before .before .grow .last .1 .0) (c .before .before .before .before .before .grow .result) _ _ (c .before .before .before .before .before .grow .ensures) (c .before .zero .given .1)
 
 abbrev ws : (t : ℕ) (c : grow-lts.After-known-told (calls t) (grow-at t) grow.Post) → List ℕ
 ws t c =
@@ -73,19 +97,19 @@ ws t c =
     take (length ys - k) (drop k ys)
 
 ws-length : (t : ℕ) (c : grow-lts.After-known-told (calls t) (grow-at t) grow.Post)
-    → length (ws t c) ≡ length (c .before .before .before .before .before .before .before .before .before .before .before .before .before .args .store .now) - node-run * c .before .zero .given .0 .1 .0
+    → length (ws t c) ≡ length (c .before .before .before .before .before .before .before .before .before .before .before .before .before .before .args .store .now) - node-run * c .before .zero .given .0 .1 .0
 ws-length t c =
     let k = node-run * c .before .zero .given .0 .1 .0 in
     part-length k (c .before .before .before .before .before .grow .last .1 .0) ∙ ap (λ (n : ℕ). n - k) (c .before .before .before .before .before .grow .kept .1 .0)
 
 one-took : (t : ℕ) (c : grow-lts.After-known-told2 (calls t) (grow-at t) grow.Post)
-    → Took (rawOf (view (c .before .before .before .before .before .before .before .set2 .result))) (ws t (c .before .before .before .before .before .before .before .before)) (c .before .before .before .before .before .grow2 .last .1 .0) (c .before .one .given .0 .1 .0)
+    → Took (rawOf (view (ones t (c .before .before .before .before .before .before .before)))) (ws t (c .before .before .before .before .before .before .before .before)) (c .before .before .before .before .before .grow2 .last .1 .0) (c .before .one .given .0 .1 .0)
 one-took t c =
-    took (rawOf (view (c .before .before .before .before .before .before .before .set2 .result))) (ws t (c .before .before .before .before .before .before .before .before)) (c .before .before .before .before .before .grow2 .last .1 .0) (c .before .before .before .before .before .grow2 .result) _ _ (c .before .before .before .before .before .grow2 .ensures) (c .before .one .given .1)
+    took (rawOf (view (ones t (c .before .before .before .before .before .before .before)))) (ws t (c .before .before .before .before .before .before .before .before)) (c .before .before .before .before .before .grow2 .last .1 .0) (c .before .before .before .before .before .grow2 .result) _ _ (c .before .before .before .before .before .grow2 .ensures) (c .before .one .given .1)
 
 vs-length : (t : ℕ) (c : grow-lts.After-known-told2 (calls t) (grow-at t) grow.Post)
     → length (putMid (node-run * c .before .before .before .before .before .before .before .before .before .zero .given .0 .1 .0) (length (c .before .before .before .before .before .before .before .before .before .before .before .before .before .grow .last .1 .0) - node-run * c .before .before .before .before .before .before .before .before .before .zero .given .0 .1 .0) (c .before .before .before .before .before .before .before .before .before .before .before .before .before .grow .last .1 .0) (c .before .before .before .before .before .grow2 .last .1 .0))
-    ≡ length (c .before .before .before .before .before .before .before .before .before .before .before .before .before .before .before .before .before .before .before .before .before .args .store .now)
+    ≡ length (c .before .before .before .before .before .before .before .before .before .before .before .before .before .before .before .before .before .before .before .before .before .before .args .store .now)
 vs-length t c =
     let k = node-run * c .before .before .before .before .before .before .before .before .before .zero .given .0 .1 .0 in
     let ys = c .before .before .before .before .before .before .before .before .before .before .before .before .before .grow .last .1 .0 in
@@ -121,13 +145,13 @@ grow-test-of-requires t c κs =
     (normal-clean m w g e, normal-tests m w g e, normal-open m w g e (c .before .if1 .left) (c .if2 .left))
 
 grow-set-requires : (t : ℕ) → grow-lts.Need-set-requires (calls t) (grow-at t) grow.Post
-grow-set-requires t c κs = (split t c .good .clean, split-low _ _ _ (split t c))
+grow-set-requires t c κs = (clean-wide _ (split t (c .before) .good .clean), split-low _ _ _ (split t (c .before)))
 
 grow-grow-requires : (t : ℕ) → grow-lts.Need-grow-requires (calls t) (grow-at t) grow.Post
 grow-grow-requires t c κs =
-    let a = split t (c .before .before) in (
-      omega (arith, arm-falls _ _ (c .before .set .result) _ false a (c .before .set .ensures), c .before .before .before .before .before .before .before .pre .0),
-      (arm-good _ _ (c .before .set .result) _ false a (c .before .set .ensures), c .before .before .before .before .before .before .before .pre .1 .1),
+    let a = split t (c .before .before .before) in (
+      omega (arith, arm-falls _ _ (zeros t (c .before)) _ false a (zero-is t (c .before)), c .before .before .before .before .before .before .before .before .pre .0),
+      (arm-good _ _ (zeros t (c .before)) _ false a (zero-is t (c .before)), c .before .before .before .before .before .before .before .before .pre .1 .1),
     )
 
 grow-enum-known-zero : (t : ℕ) → grow-lts.Need-enum-known-zero (calls t) (grow-at t) grow.Post
@@ -141,18 +165,18 @@ grow-same-length-3 t c = search needs
 
 grow-returns-3 : (t : ℕ) → grow-lts.Need-returns-3 (calls t) (grow-at t) grow.Post
 grow-returns-3 t c =
-    rw (zero-tree _ _ _ (split t (c .before .before .before .before .before .before .before)) (c .before .before .before .before .before .before .set .result) (c .before .before .before .before .before .before .set .ensures))
-    (up-zero _ _ _ (c .before .before .before .before .before .before .before .before .before .before .before .before .args .store .now) (c .before .before .before .before .grow .last .1 .0)
-    (gave-up (rawOf (view (c .before .before .before .before .before .before .set .result))) (c .before .before .before .before .before .before .before .before .before .before .before .before .args .store .now) (c .before .before .before .before .grow .last .1 .0) (c .before .before .before .before .grow .result) _ (c .before .before .before .before .grow .ensures) (c .enum-told .given .1)))
+    rw (zero-tree _ _ _ (split t (c .before .before .before .before .before .before .before .before)) (zeros t (c .before .before .before .before .before .before)) (zero-is t (c .before .before .before .before .before .before)))
+    (up-zero _ _ _ (c .before .before .before .before .before .before .before .before .before .before .before .before .before .args .store .now) (c .before .before .before .before .grow .last .1 .0)
+    (gave-up (rawOf (view (zeros t (c .before .before .before .before .before .before)))) (c .before .before .before .before .before .before .before .before .before .before .before .before .before .args .store .now) (c .before .before .before .before .grow .last .1 .0) (c .before .before .before .before .grow .result) _ (c .before .before .before .before .grow .ensures) (c .enum-told .given .1)))
 
 grow-mul-at : (t : ℕ) → grow-lts.Need-mul-at (calls t) (grow-at t) grow.Post
-grow-mul-at t c = omega (arith, zero-took t c .within, c .before .before .before .before .before .before .before .before .before .before .before .before .before .pre .1 .1)
+grow-mul-at t c = omega (arith, zero-took t c .within, c .before .before .before .before .before .before .before .before .before .before .before .before .before .before .pre .1 .1)
 
 grow-set-requires-2 : (t : ℕ) → grow-lts.Need-set-requires-2 (calls t) (grow-at t) grow.Post
-grow-set-requires-2 t c κs = (split t (c .before .before .before .before .before .before .before .before) .good .clean, split-low _ _ _ (split t (c .before .before .before .before .before .before .before .before)))
+grow-set-requires-2 t c κs = (clean-wide _ (split t (c .before .before .before .before .before .before .before .before .before) .good .clean), split-low _ _ _ (split t (c .before .before .before .before .before .before .before .before .before)))
 
 grow-mul-grow : (t : ℕ) → grow-lts.Need-mul-grow (calls t) (grow-at t) grow.Post
-grow-mul-grow t c = omega (arith, zero-took t (c .before) .within, c .before .before .before .before .before .before .before .before .before .before .before .before .before .before .pre .1 .1)
+grow-mul-grow t c = omega (arith, zero-took t (c .before) .within, c .before .before .before .before .before .before .before .before .before .before .before .before .before .before .before .pre .1 .1)
 
 grow-sub-grow : (t : ℕ) → grow-lts.Need-sub-grow (calls t) (grow-at t) grow.Post
 grow-sub-grow t c = omega (arith, zero-took t (c .before) .within, c .before .before .before .before .before .before .grow .kept .1 .0)
@@ -165,9 +189,9 @@ grow-part-grow-end t c = search needs
 
 grow-grow-requires-2 : (t : ℕ) → grow-lts.Need-grow-requires-2 (calls t) (grow-at t) grow.Post
 grow-grow-requires-2 t c κs =
-    let a = split t (c .before .before .before .before .before .before .before .before .before .before) in (
-      omega (arith, arm-falls _ _ (c .before .set2 .result) _ true a (c .before .set2 .ensures), c .before .before .before .before .before .before .before .before .before .before .before .before .before .before .before .pre .0),
-      (arm-good _ _ (c .before .set2 .result) _ true a (c .before .set2 .ensures), omega (arith, ws-length t (c .before .before), c .before .before .before .before .before .before .before .before .before .before .before .before .before .before .before .pre .1 .1)),
+    let a = split t (c .before .before .before .before .before .before .before .before .before .before .before) in (
+      omega (arith, arm-falls _ _ (ones t (c .before)) _ true a (one-is t (c .before)), c .before .before .before .before .before .before .before .before .before .before .before .before .before .before .before .before .pre .0),
+      (arm-good _ _ (ones t (c .before)) _ true a (one-is t (c .before)), omega (arith, ws-length t (c .before .before), c .before .before .before .before .before .before .before .before .before .before .before .before .before .before .before .before .pre .1 .1)),
     )
 
 grow-enum-known-one : (t : ℕ) → grow-lts.Need-enum-known-one (calls t) (grow-at t) grow.Post
@@ -181,31 +205,31 @@ grow-same-length-4 t c = search needs
 
 grow-returns-4 : (t : ℕ) → grow-lts.Need-returns-4 (calls t) (grow-at t) grow.Post
 grow-returns-4 t c =
-    rw (arms-tree _ _ _ (split t (c .before .before .before .before .before .before .before .before .before .before .before .before .before .before .before)) (c .before .before .before .before .before .before .before .before .before .before .before .before .before .before .set .result) (c .before .before .before .before .before .before .set2 .result) (c .before .before .before .before .before .before .before .before .before .before .before .before .before .before .set .ensures) (c .before .before .before .before .before .before .set2 .ensures))
-    (up-one _ _ _ (c .before .before .before .before .before .before .before .before .before .before .before .before .before .before .before .before .before .before .before .before .args .store .now) (c .before .before .before .before .before .before .before .before .before .before .before .before .grow .last .1 .0) (ws t (c .before .before .before .before .before .before .before)) _ (c .before .before .before .before .before .before .before .before .zero .given .0 .1 .0) (zero-took t (c .before .before .before .before .before .before .before)) (ws-length t (c .before .before .before .before .before .before .before))
-    (gave-up (rawOf (view (c .before .before .before .before .before .before .set2 .result))) (ws t (c .before .before .before .before .before .before .before)) (c .before .before .before .before .grow2 .last .1 .0) (c .before .before .before .before .grow2 .result) _ (c .before .before .before .before .grow2 .ensures) (c .enum-told2 .given .1)))
+    rw (arms-tree _ _ _ (split t (c .before .before .before .before .before .before .before .before .before .before .before .before .before .before .before .before)) (zeros t (c .before .before .before .before .before .before .before .before .before .before .before .before .before .before)) (ones t (c .before .before .before .before .before .before)) (zero-is t (c .before .before .before .before .before .before .before .before .before .before .before .before .before .before)) (one-is t (c .before .before .before .before .before .before)))
+    (up-one _ _ _ (c .before .before .before .before .before .before .before .before .before .before .before .before .before .before .before .before .before .before .before .before .before .args .store .now) (c .before .before .before .before .before .before .before .before .before .before .before .before .grow .last .1 .0) (ws t (c .before .before .before .before .before .before .before)) _ (c .before .before .before .before .before .before .before .before .zero .given .0 .1 .0) (zero-took t (c .before .before .before .before .before .before .before)) (ws-length t (c .before .before .before .before .before .before .before))
+    (gave-up (rawOf (view (ones t (c .before .before .before .before .before .before)))) (ws t (c .before .before .before .before .before .before .before)) (c .before .before .before .before .grow2 .last .1 .0) (c .before .before .before .before .grow2 .result) _ (c .before .before .before .before .grow2 .ensures) (c .enum-told2 .given .1)))
 
 grow-join-requires : (t : ℕ) → grow-lts.Need-join-requires (calls t) (grow-at t) grow.Post
 grow-join-requires t c κs =
     let z = zero-took t (c .before .before .before .before .before .before .before .before .before) in
-    omega (arith, vs-length t (c .before), z .within, z .pos, one-took t (c .before) .within, ws-length t (c .before .before .before .before .before .before .before .before .before), c .before .before .before .before .before .before .before .before .before .before .before .before .before .before .before .before .before .before .before .before .before .before .pre .1 .1)
+    omega (arith, vs-length t (c .before), z .within, z .pos, one-took t (c .before) .within, ws-length t (c .before .before .before .before .before .before .before .before .before), c .before .before .before .before .before .before .before .before .before .before .before .before .before .before .before .before .before .before .before .before .before .before .before .pre .1 .1)
 
 grow-same-length-5 : (t : ℕ) → grow-lts.Need-same-length-5 (calls t) (grow-at t) grow.Post
 grow-same-length-5 t c = search needs
 
 grow-returns-5 : (t : ℕ) → grow-lts.Need-returns-5 (calls t) (grow-at t) grow.Post
 grow-returns-5 t c =
-    let s = split t (c .before .before .before .before .before .before .before .before .before .before .before .before .before .before .before .before .before .before .before .before) in
-    let z = c .before .before .before .before .before .before .before .before .before .before .before .before .before .before .before .before .before .before .before .set .result in
-    let o = c .before .before .before .before .before .before .before .before .before .before .before .set2 .result in
-    let xs = c .before .before .before .before .before .before .before .before .before .before .before .before .before .before .before .before .before .before .before .before .before .before .before .before .before .args .store .now in
+    let s = split t (c .before .before .before .before .before .before .before .before .before .before .before .before .before .before .before .before .before .before .before .before .before) in
+    let z = (zeros t (c .before .before .before .before .before .before .before .before .before .before .before .before .before .before .before .before .before .before .before)) in
+    let o = (ones t (c .before .before .before .before .before .before .before .before .before .before .before)) in
+    let xs = c .before .before .before .before .before .before .before .before .before .before .before .before .before .before .before .before .before .before .before .before .before .before .before .before .before .before .args .store .now in
     let ys = c .before .before .before .before .before .before .before .before .before .before .before .before .before .before .before .before .before .grow .last .1 .0 in
     let us = c .before .before .before .before .before .before .before .before .before .grow2 .last .1 .0 in
     let a = zero-took t (c .before .before .before .before .before .before .before .before .before .before .before .before) in
     let d = one-took t (c .before .before .before .before) in
     let l = ws-length t (c .before .before .before .before .before .before .before .before .before .before .before .before) in
-    let k = arms-stand z o xs ys (ws t (c .before .before .before .before .before .before .before .before .before .before .before .before)) us _ _ (arm-good _ _ z _ false s (c .before .before .before .before .before .before .before .before .before .before .before .before .before .before .before .before .before .before .before .set .ensures)) (arm-good _ _ o _ true s (c .before .before .before .before .before .before .before .before .before .before .before .set2 .ensures)) a d (c .before .before .before .before .before .before .before .before .before .before .before .before .before .before .before .before .before .grow .kept .1 .0) l (c .before .before .before .before .before .before .before .before .before .grow2 .kept .1 .0) in
-    rw (arms-tree _ _ _ s z o (c .before .before .before .before .before .before .before .before .before .before .before .before .before .before .before .before .before .before .before .set .ensures) (c .before .before .before .before .before .before .before .before .before .before .before .set2 .ensures))
+    let k = arms-stand z o xs ys (ws t (c .before .before .before .before .before .before .before .before .before .before .before .before)) us _ _ (arm-good _ _ z _ false s (zero-is t (c .before .before .before .before .before .before .before .before .before .before .before .before .before .before .before .before .before .before .before))) (arm-good _ _ o _ true s (one-is t (c .before .before .before .before .before .before .before .before .before .before .before))) a d (c .before .before .before .before .before .before .before .before .before .before .before .before .before .before .before .before .before .grow .kept .1 .0) l (c .before .before .before .before .before .before .before .before .before .grow2 .kept .1 .0) in
+    rw (arms-tree _ _ _ s z o (zero-is t (c .before .before .before .before .before .before .before .before .before .before .before .before .before .before .before .before .before .before .before)) (one-is t (c .before .before .before .before .before .before .before .before .before .before .before)))
     (up-join _ (rawOf (view z)) (rawOf (view o)) xs ys (ws t (c .before .before .before .before .before .before .before .before .before .before .before .before)) us _ (c .before .before .join .last .0) _ _ (c .before .before .join .result) a d l (vs-length t (c .before .before .before .before)) (c .before .before .join .ensures (reduce (rawOf (view z))) (reduce (rawOf (view o))) k))
 
 pub +grow-spec : {M : Type 1} → statement M

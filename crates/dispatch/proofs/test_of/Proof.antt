@@ -13,15 +13,15 @@ use Rattle.rules.specs.Dispatch.{test}
 
 within : (c : tie.After-column-of) → c .column-of .result .0 < columns-max
 within c =
-    let m = c .before .args .t1 in
-    let p = c .before .pre in
+    let m = c .before .before .args .m in
+    let p = c .before .before .pre in
     omega (arith, c .column-of .ensures, column-in (view m) (p .2), clean-held m (p .0) .columns, clean-wide m (p .0))
 
-net-is : (c : tie.After-net) → getD (c .before .before .args .t1 .value) (c .before .column-of .result .0) 0 ≡ test (view (c .before .before .args .t1))
+net-is : (c : tie.After-column-of) → getD (c .before .before .args .m .value) (c .column-of .result .0) 0 ≡ test (view (c .before .before .args .m))
 net-is c =
-    let m = c .before .before .args .t1 in
+    let m = c .before .before .args .m in
     let p = c .before .before .pre in
-    test-is (view m) (m .value) (m .columns) _ refl (clean-held m (p .0) .columns) (p .2) (c .before .column-of .ensures)
+    test-is (view m) (m .value) (m .columns) _ refl (clean-held m (p .0) .columns) (p .2) (c .column-of .ensures)
 
 column-of-requires : tie.Need-column-of-requires
 column-of-requires c κs = search needs
@@ -29,14 +29,14 @@ column-of-requires c κs = search needs
 mul-net : tie.Need-mul-net
 mul-net c = omega (arith, within c)
 
-element-copy-out-net : tie.Need-element-copy-out-net
-element-copy-out-net c = within c
+array-read-net : tie.Need-array-read-net
+array-read-net c = within c
 
-sub-t10 : tie.Need-sub-t10
-sub-t10 c = omega (arith, net-is c, test-cell (view (c .before .before .args .t1)) (c .before .before .pre .1) (c .before .before .pre .2))
+sub-t9 : tie.Need-sub-t9
+sub-t9 c = omega (arith, net-is c, test-cell (view (c .before .before .args .m)) (c .before .before .pre .1) (c .before .before .pre .2))
 
 returns : tie.Need-returns
-returns c = omega (arith, net-is c, test-cell (view (c .before .before .args .t1)) (c .before .before .pre .1) (c .before .before .pre .2))
+returns c = omega (arith, net-is c, test-cell (view (c .before .before .args .m)) (c .before .before .pre .1) (c .before .before .pre .2))
 
 pub test-of-spec : {M : Type 1} → statement M
-test-of-spec = tie.close (tie.spec column-of-requires mul-net element-copy-out-net sub-t10 returns)
+test-of-spec = tie.close (tie.spec column-of-requires mul-net array-read-net sub-t9 returns)

@@ -1,6 +1,7 @@
 use borrow.Author.Needs.{needs}
 use borrow.Author.Tests.{not-false, not-true}
 use mathlib.Core.Path.{ap, sym, _∙_}
+use native.Mathlib.Omega.{arith}
 use Rattle.emit.proofs.Places.{found-is, hot-can, hot-form, hot-net, hot-place, hot-width, names-in, nets-in, tree-seen, tree-unseen}
 use Rattle.emit.proofs.one_hot.Statement.{statement}
 use Rattle.emit.proofs.one_hot.Tie as tie
@@ -105,7 +106,7 @@ returns-5 c =
     let n = sym (nets-in (c .before .before .before .before .before .before .before .before .before .before .before .before .before .before .before .args .outputs .now)) ∙ sym (c .before .before .before .before .before .before .before .before .all-between .ensures) ∙ not-false _ (c .before .before .before .before .before .before .before .if1 .left) in
     let d = not-bad (badTable (c .before .before .before .before .before .before .before .before .before .before .before .before .before .before .before .args .count) (c .before .before .before .before .before .before .before .before .before .before .before .before .before .before .before .args .table .now)) (sym (not-false _ (c .before .before .before .before .if2 .left)) ∙ c .before .before .before .before .before .formed .ensures) in
     let m = sym (names-in (c .before .before .before .before .before .before .before .before .before .before .before .before .before .before .before .args .outputs .now)) ∙ sym (c .before .before .before .all-between2 .ensures) ∙ not-false _ (c .before .before .if3 .left) in
-    let f = hot-width (c .before .before .before .before .before .before .before .before .before .before .before .before .before .before .before .args .store .now) (c .before .before .before .before .before .before .before .before .before .before .before .before .before .before .before .args .root .0) (c .before .before .before .before .before .before .before .before .before .before .before .before .before .before .before .args .outputs .now) (c .before .before .before .before .before .before .before .before .before .before .before .before .before .before .before .args .count) (c .before .before .before .before .before .before .before .before .before .before .before .before .before .before .before .args .table .now) (rw (t, n, d)) m (c .before .if4 .taken) in
+    let f = hot-width (c .before .before .before .before .before .before .before .before .before .before .before .before .before .before .before .args .store .now) (c .before .before .before .before .before .before .before .before .before .before .before .before .before .before .before .args .root .0) (c .before .before .before .before .before .before .before .before .before .before .before .before .before .before .before .args .outputs .now) (c .before .before .before .before .before .before .before .before .before .before .before .before .before .before .before .args .count) (c .before .before .before .before .before .before .before .before .before .before .before .before .before .before .before .args .table .now) (rw (t, n, d)) m (omega (arith, c .before .if4 .taken)) in
     (c .refuse5 .ensures ∙ f .0, f .1)
 
 -- src/lib.rt:49:39
@@ -116,7 +117,7 @@ slice-aggregate-place c = search needs
 place-requires : tie.Need-place-requires
 place-requires c κs =
     let d = not-bad (badTable (c .before .before .before .before .before .before .before .before .before .before .before .before .before .before .before .before .args .count) (c .before .before .before .before .before .before .before .before .before .before .before .before .before .before .before .before .args .table .now)) (sym (not-false _ (c .before .before .before .before .before .if2 .left)) ∙ c .before .before .before .before .before .before .formed .ensures) in
-    hot-can (c .before .before .before .before .before .before .before .before .before .before .before .before .before .before .before .before .args .store .now) (c .before .before .before .before .before .before .before .before .before .before .before .before .before .before .before .before .args .root .0) (c .before .before .before .before .before .before .before .before .before .before .before .before .before .before .before .before .args .outputs .now) (c .before .before .before .before .before .before .before .before .before .before .before .before .before .before .before .before .args .count) (c .before .before .before .before .before .before .before .before .before .before .before .before .before .before .before .before .args .table .now) (tree-seen (c .before .before .before .before .before .before .before .before .before .before .before .before .before .before .before .before .args .store .now) (c .before .before .before .before .before .before .before .before .before .before .before .before .before .before .before .before .args .root .0) (c .before .before .before .before .before .before .before .before .before .before .enum-told .given .0 .0) (c .before .before .before .before .before .before .before .before .before .before .before .before .check .result) (c .before .before .before .before .before .before .before .before .before .before .before .before .check .ensures) (c .before .before .before .before .before .before .before .before .before .before .enum-told .given .1)) d (c .before .before .if4 .left)
+    hot-can (c .before .before .before .before .before .before .before .before .before .before .before .before .before .before .before .before .args .store .now) (c .before .before .before .before .before .before .before .before .before .before .before .before .before .before .before .before .args .root .0) (c .before .before .before .before .before .before .before .before .before .before .before .before .before .before .before .before .args .outputs .now) (c .before .before .before .before .before .before .before .before .before .before .before .before .before .before .before .before .args .count) (c .before .before .before .before .before .before .before .before .before .before .before .before .before .before .before .before .args .table .now) (tree-seen (c .before .before .before .before .before .before .before .before .before .before .before .before .before .before .before .before .args .store .now) (c .before .before .before .before .before .before .before .before .before .before .before .before .before .before .before .before .args .root .0) (c .before .before .before .before .before .before .before .before .before .before .enum-told .given .0 .0) (c .before .before .before .before .before .before .before .before .before .before .before .before .check .result) (c .before .before .before .before .before .before .before .before .before .before .before .before .check .ensures) (c .before .before .before .before .before .before .before .before .before .before .enum-told .given .1)) d (omega (arith, c .before .before .if4 .left))
 
 -- src/lib.rt:30:1
 same-length-4 : tie.Need-same-length-4
@@ -129,7 +130,7 @@ returns-6 c =
     let n = sym (nets-in (c .before .before .before .before .before .before .before .before .before .before .before .before .before .before .before .before .before .before .before .args .outputs .now)) ∙ sym (c .before .before .before .before .before .before .before .before .before .before .before .before .all-between .ensures) ∙ not-false _ (c .before .before .before .before .before .before .before .before .before .before .before .if1 .left) in
     let d = not-bad (badTable (c .before .before .before .before .before .before .before .before .before .before .before .before .before .before .before .before .before .before .before .args .count) (c .before .before .before .before .before .before .before .before .before .before .before .before .before .before .before .before .before .before .before .args .table .now)) (sym (not-false _ (c .before .before .before .before .before .before .before .before .if2 .left)) ∙ c .before .before .before .before .before .before .before .before .before .formed .ensures) in
     let m = sym (names-in (c .before .before .before .before .before .before .before .before .before .before .before .before .before .before .before .before .before .before .before .args .outputs .now)) ∙ sym (c .before .before .before .before .before .before .before .all-between2 .ensures) ∙ not-false _ (c .before .before .before .before .before .before .if3 .left) in
-    let f = hot-place (c .before .before .before .before .before .before .before .before .before .before .before .before .before .before .before .before .before .before .before .args .store .now) (c .before .before .before .before .before .before .before .before .before .before .before .before .before .before .before .before .before .before .before .args .root .0) (c .before .before .before .before .before .before .before .before .before .before .before .before .before .before .before .before .before .before .before .args .outputs .now) (c .before .before .before .before .before .before .before .before .before .before .before .before .before .before .before .before .before .before .before .args .count) (c .before .before .before .before .before .before .before .before .before .before .before .before .before .before .before .before .before .before .before .args .table .now) (rw (t, n, d)) m (c .before .before .before .before .before .if4 .left) in
+    let f = hot-place (c .before .before .before .before .before .before .before .before .before .before .before .before .before .before .before .before .before .before .before .args .store .now) (c .before .before .before .before .before .before .before .before .before .before .before .before .before .before .before .before .before .before .before .args .root .0) (c .before .before .before .before .before .before .before .before .before .before .before .before .before .before .before .before .before .before .before .args .outputs .now) (c .before .before .before .before .before .before .before .before .before .before .before .before .before .before .before .before .before .before .before .args .count) (c .before .before .before .before .before .before .before .before .before .before .before .before .before .before .before .before .before .before .before .args .table .now) (rw (t, n, d)) m (omega (arith, c .before .before .before .before .before .if4 .left)) in
     (c .before .before .place .ensures .0 ∙ ap emittedFrom (f .0), c .before .before .place .ensures .1 ∙ f .1)
 
 pub one-hot-spec : {M : Type 1} → statement M

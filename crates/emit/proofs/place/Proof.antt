@@ -47,7 +47,7 @@ slice-aggregate-emit c = sym (length-take-le (node-run * (c .before .before .bef
 
 -- src/lib.rt:74:9
 emit-requires : tie.Need-emit-requires
-emit-requires c κs = place-can (gives (c .before .before .before .before .before .before .before .before .before .before .before .args .hot) (c .before .before .before .before .before .before .before .before .before .before .before .args .nets .now) (c .before .before .before .before .before .before .before .before .before .before .before .args .widths .now) (c .before .before .before .before .before .before .before .before .before .before .before .args .bits .now) (c .before .before .before .before .before .before .before .before .before .before .before .args .value .now)) (length (c .before .before .before .before .before .before .before .before .before .before .before .args .value .now)) (c .before .before .before .before .before .before .before .before .before .before .before .args .store .now) (c .before .before .before .before .before .before .before .before .before .before .before .args .root .0) (c .before .before .before .before .before .before .before .before .before .before .before .args .count) (c .before .before .before .before .before .before .before .before .before .before .before .args .table .now) (c .before .before .before .before .before .before .before .before .before .before .before .pre) (omega (arith, c .before .before .if1 .left, c .before .before .before .room .ensures))
+emit-requires c κs = place-can (gives (c .before .before .before .before .before .before .before .before .before .before .before .args .hot) (c .before .before .before .before .before .before .before .before .before .before .before .args .nets .now) (c .before .before .before .before .before .before .before .before .before .before .before .args .widths .now) (c .before .before .before .before .before .before .before .before .before .before .before .args .bits .now) (c .before .before .before .before .before .before .before .before .before .before .before .args .value .now)) (length (c .before .before .before .before .before .before .before .before .before .before .before .args .value .now)) (c .before .before .before .before .before .before .before .before .before .before .before .args .store .now) (c .before .before .before .before .before .before .before .before .before .before .before .args .root .0) (c .before .before .before .before .before .before .before .before .before .before .before .args .count) (c .before .before .before .before .before .before .before .before .before .before .before .args .table .now) (c .before .before .before .before .before .before .before .before .before .before .before .pre) _ (omega arith) (omega (arith, c .before .before .if1 .left, c .before .before .before .room .ensures))
 
 -- src/lib.rt:64:1
 same-length : tie.Need-same-length

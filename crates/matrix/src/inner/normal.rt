@@ -15,7 +15,7 @@ ghost use Rattle.rules.specs.Codes.{netCode};
 ghost use Rattle.rules.specs.Matrix.{Row};
 ghost use Rattle.rules.specs.Nets.{isCell};
 ghost use Rattle.rules.specs.Normalize.{again, normalize};
-ghost use Rattle.rules.specs.Steps.{goes, walkRows, xAt};
+ghost use Rattle.rules.specs.Steps.{place};
 ghost use Rattle.rules.specs.Trits.{isX};
 
 // By the patterns as given.
@@ -35,47 +35,6 @@ fn again(
         return true;
     }
     rows::inner::undef(last, n)
-}
-
-// A row that a constant drops is the last one all the same.
-pub fn settle_rows(m: crate::Matrix, firsts: [usize; rules::COLUMNS_MAX]) -> crate::Matrix
-    requires { ⌜ Clean m × (firsts ≡ vec columns-max 0 (places (view m .nets))) ⌝ }
-    ensures { λ r. ⌜ r ≡ matrixFrom (record { nets = view m .nets; rows = walkRows (view m .nets) none (view m .rows) }) ⌝ }
-{
-    let value = m.value;
-    let n = m.columns;
-    let mut rows = [rows::inner::blank(); rules::ROWS_MAX];
-    let mut k = 0;
-    let mut have = false;
-    let mut last = [0u8; rules::COLUMNS_MAX];
-    let mut j = 0;
-    while j < m.count {
-        let row = m.rows[j];
-        j += 1;
-        let pattern = row.pattern;
-        if !again(have, last, pattern, n) {
-            let s = rows::inner::settle(value, firsts, n, pattern);
-            let moved = s.pattern;
-            let dropped = s.gone;
-            have = true;
-            last = pattern;
-            if !dropped {
-                let named = row.rules;
-                rows[k] = rows::Row {
-                    pattern: moved,
-                    len: n,
-                    rules: named,
-                };
-                k += 1;
-            }
-        }
-    }
-    crate::Matrix {
-        value: value,
-        columns: n,
-        rows: rows,
-        count: k,
-    }
 }
 
 fn marks_at(used: bool, mask: u8) -> bool
@@ -103,24 +62,6 @@ fn mark(
     made
 }
 
-// The columns where some row has no X, in one pass over the rows.
-fn used_columns(m: crate::Matrix) -> [bool; rules::COLUMNS_MAX]
-    requires { ⌜ Clean m ⌝ }
-    ensures { λ r. ⌜ r ≡ vec columns-max false (flags (λ (j n : ℕ). not (xAt (view m .rows) j)) (view m .nets)) ⌝ }
-{
-    let n = m.columns;
-    let mut used = [false; rules::COLUMNS_MAX];
-    let mut i = 0;
-    while i < m.count {
-        let row = m.rows[i];
-        let pattern = row.pattern;
-        let next = mark(used, n, pattern);
-        used = next;
-        i += 1;
-    }
-    used
-}
-
 fn goes(net: rules::Net, first: usize, j: usize, used: bool) -> bool
     ensures { λ r. ⌜ r ≡ (not (isCell (netCode net)) || (not (eqb first j) || not used)) ⌝ }
 {
@@ -136,15 +77,18 @@ fn goes(net: rules::Net, first: usize, j: usize, used: bool) -> bool
 }
 
 // Of the rows as settled: a mask that moved into its net's first column keeps that column.
-pub fn gone(m: crate::Matrix, firsts: [usize; rules::COLUMNS_MAX]) -> [bool; rules::COLUMNS_MAX]
-    requires { ⌜ Clean m × (firsts ≡ vec columns-max 0 (places (view m .nets))) ⌝ }
-    ensures { λ r. ⌜ r ≡ vec columns-max false (flags (goes (view m .nets) (view m .rows)) (view m .nets)) ⌝ }
+fn gone(
+    value: [u16; rules::COLUMNS_MAX],
+    n: usize,
+    firsts: [usize; rules::COLUMNS_MAX],
+    used: [bool; rules::COLUMNS_MAX],
+) -> [bool; rules::COLUMNS_MAX]
+    requires { ⌜ (n ≤ columns-max) × (firsts ≡ vec columns-max 0 (places (take n value))) ⌝ }
+    ensures { λ r. ⌜ r ≡ vec columns-max false (flags (λ (j x : ℕ). not (isCell x) || (not (eqb (place x (take n value)) j) || not (getD used j false))) (take n value)) ⌝ }
 {
-    let n = m.columns;
-    let used = used_columns(m);
     let mut made = [false; rules::COLUMNS_MAX];
     for j in 0..n {
-        let net = trits::inner::net(m.value[j]);
+        let net = trits::inner::net(value[j]);
         let g = goes(net, firsts[j], j, used[j]);
         made[j] = g;
     }
@@ -175,13 +119,45 @@ pub fn strip_rows(mut m: crate::Matrix, gone: [bool; rules::COLUMNS_MAX]) -> cra
     m
 }
 
-pub fn normalize(m: crate::Matrix) -> crate::Matrix
+// A row that a constant drops is the last one all the same. A slot is blank once its row was read: rows move down in place.
+pub fn normalize(mut m: crate::Matrix) -> crate::Matrix
     requires { ⌜ Clean m ⌝ }
     ensures { λ r. ⌜ r ≡ matrixFrom (normalize (view m)) ⌝ }
 {
     let value = m.value;
-    let firsts = rows::inner::firsts(value, m.columns);
-    let settled = settle_rows(m, firsts);
-    let gone = gone(settled, firsts);
-    strip_rows(settled, gone)
+    let n = m.columns;
+    let count = m.count;
+    let firsts = rows::inner::firsts(value, n);
+    let mut used = [false; rules::COLUMNS_MAX];
+    let mut k = 0;
+    let mut have = false;
+    let mut last = [0u8; rules::COLUMNS_MAX];
+    let mut j = 0;
+    while j < count {
+        let row = m.rows[j];
+        m.rows[j] = rows::inner::blank();
+        j += 1;
+        let pattern = row.pattern;
+        if !again(have, last, pattern, n) {
+            let s = rows::inner::settle(value, firsts, n, pattern);
+            let moved = s.pattern;
+            let dropped = s.gone;
+            have = true;
+            last = pattern;
+            if !dropped {
+                let named = row.rules;
+                m.rows[k] = rows::Row {
+                    pattern: moved,
+                    len: n,
+                    rules: named,
+                };
+                let next = mark(used, n, moved);
+                used = next;
+                k += 1;
+            }
+        }
+    }
+    m.count = k;
+    let gone = gone(value, n, firsts, used);
+    strip_rows(m, gone)
 }

@@ -2,7 +2,8 @@
 ghost use lib.Dec.{eqb};
 ghost use mathlib.Core.Bool.{false};
 ghost use mathlib.Core.Path.{_≡_};
-ghost use Prim.Native.Nat.{_<_};
+ghost use Prim.Native.Nat.{_<_, _≤_};
+ghost use Rattle.lists.specs.Lists.{mapTo};
 ghost use Rattle.matrix.specs.Mat.{Clean, matrixFrom, view};
 ghost use Rattle.rows.specs.Rows.{rowFrom};
 ghost use Rattle.rows.specs.Rows as rows;
@@ -24,19 +25,35 @@ fn swap(target: u16, value: u16, net: u16) -> u16
     net
 }
 
-// A net made a constant, by their codes.
+// A net made a constant, by their codes, in the n columns in use.
+pub fn assume_nets(
+    value: [u16; rules::COLUMNS_MAX],
+    n: usize,
+    target: u16,
+    bit: u8,
+) -> [u16; rules::COLUMNS_MAX]
+    requires { ⌜ n ≤ columns-max ⌝ }
+    ensures { λ r. ⌜ r ≡ mapTo (swap target bit) n value ⌝ }
+{
+    let b = wide(bit);
+    let mut made = value;
+    let mut i = 0;
+    while i < n {
+        let x = made[i];
+        made[i] = swap(target, b, x);
+        i += 1;
+    }
+    made
+}
+
+// The rows stay as they are.
 pub fn assume(mut m: crate::Matrix, target: u16, value: u8) -> crate::Matrix
     requires { ⌜ Clean m ⌝ }
     ensures { λ r. ⌜ r ≡ matrixFrom (assume target value (view m)) ⌝ }
 {
-    let n = m.columns;
-    let b = wide(value);
-    let mut i = 0;
-    while i < n {
-        let x = m.value[i];
-        m.value[i] = swap(target, b, x);
-        i += 1;
-    }
+    let nets = m.value;
+    let made = assume_nets(nets, m.columns, target, value);
+    m.value = made;
     m
 }
 

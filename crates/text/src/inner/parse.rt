@@ -1,8 +1,9 @@
 // One line: what it holds, loosely, is printed again, and the line is taken only if that is the line.
-ghost use lib.ListN.{getD, take};
-ghost use mathlib.Core.List.{reverse};
+ghost use lib.ListN.{drop, getD, take};
+ghost use mathlib.Core.List.{[], reverse};
 ghost use mathlib.Core.Path.{_≡_};
 ghost use Prim.Native.Nat.{_<_, _≤_};
+ghost use Rattle.lists.specs.Lists.{same};
 ghost use Rattle.lists.specs.Vec.{vec};
 ghost use Rattle.rows.specs.Rows.{netsFrom, rowFrom};
 ghost use Rattle.rules.specs.Bounds.{columns-max, rules-max};
@@ -10,6 +11,7 @@ ghost use Rattle.rules.specs.Read.{tritIn};
 ghost use Rattle.sets.specs.Sets.{rulesFrom};
 ghost use Rattle.text.specs.Scan.{looseNets, looseRow, patternAt, rulesAt, scanned};
 ghost use Rattle.text.specs.Taken.{rowTaken, valueTaken};
+ghost use Rattle.text.specs.Trees.{ruleEnd};
 use crate::inner::lines;
 use crate::inner::scan;
 
@@ -122,10 +124,23 @@ fn start(w: usize) -> usize
     5 + w + (w - 1) / 4
 }
 
+// Whether the line ends in the fixed bytes that stand for no rules.
+fn empty(line: &[u8], at: usize) -> bool
+    ensures { λ r. ⌜ r ≡ same (drop at (now (line .entry))) (ruleEnd []) ⌝ }
+{
+    if line.len() < at {
+        return false;
+    }
+    check::same(&line[at..], b" (empty)\n")
+}
+
 fn names(line: &[u8], at: usize) -> sets::Rules
     requires { ⌜ at ≤ rulesAt columns-max ⌝ }
     ensures { λ r. ⌜ r ≡ rulesFrom (scanned rules-max (now (line .entry)) at) ⌝ }
 {
+    if empty(line, at) {
+        return sets::inner::none();
+    }
     let mut found = [0u16; rules::RULES_MAX];
     let n = scan::scan(line, at, &mut found);
     sets::Rules {

@@ -1,6 +1,6 @@
 use borrow.Author.Needs.{needs}
 use lib.ListN.{length, take}
-use lib.Seq.{getD-take}
+use lib.Seq.{getD-take, length-take-le}
 use mathlib.Core.Bool.{false}
 use mathlib.Core.Path.{_∙_, _≡_, refl, sym}
 use native.Mathlib.Omega.{arith}
@@ -8,33 +8,26 @@ use Prim.Native.Nat.{_-_, _≤_}
 use Rattle.lists.specs.Vec.{vec}
 use Rattle.matrix.proofs.inner.normal.gone.Statement.{statement}
 use Rattle.matrix.proofs.inner.normal.gone.Tie as tie
-use Rattle.matrix.proofs.NormalFlags.{flags-end, flags-turn, goes-is, used-at}
-use Rattle.matrix.proofs.StepHeld.{clean-held, clean-wide}
-use Rattle.matrix.specs.Mat.{view}
+use Rattle.matrix.proofs.NormalFlags.{flags-end, flags-turn, gone-at, goneBy}
 use Rattle.rows.proofs.Walked.{first-is}
 use Rattle.rows.specs.Rows.{flags}
 use Rattle.rules.specs.Bounds.{columns-max}
-use Rattle.rules.specs.Steps.{goes}
 
 abbrev Inv-loop : tie.InvT-loop
-Inv-loop m firsts n used made₀ j₀ made j =
-    (j ≤ n) × (n ≤ columns-max) × (made ≡ vec columns-max false (take j (flags (goes (view m .nets) (view m .rows)) (view m .nets))))
+Inv-loop n value firsts used made₀ j₀ made j = (j ≤ n) × (n ≤ columns-max) × (made ≡ vec columns-max false (take j (flags (goneBy (take n value) used) (take n value))))
 
 abbrev μ-loop : tie.MeasureT-loop
-μ-loop m firsts n used made₀ j₀ made j = n - j
-
-used-columns-requires : tie.Need-used-columns-requires Inv-loop μ-loop
-used-columns-requires c κs = c .pre .0
+μ-loop n value firsts used made₀ j₀ made j = n - j
 
 loop-holds : tie.Need-loop-holds Inv-loop μ-loop
 unfolding vec
-loop-holds c = (search needs, clean-wide (c .before .args .t1) (c .before .pre .0), refl)
+loop-holds c = (search needs, search needs, refl)
 
 mul-net : tie.Need-mul-net Inv-loop μ-loop
 mul-net c = search needs
 
-element-copy-out-net : tie.Need-element-copy-out-net Inv-loop μ-loop
-element-copy-out-net c = search needs
+array-read-net : tie.Need-array-read-net Inv-loop μ-loop
+array-read-net c = search needs
 
 net-requires : tie.Need-net-requires Inv-loop μ-loop
 net-requires c κs = search needs
@@ -62,27 +55,26 @@ loop-less c = search needs
 
 loop-again : tie.Need-loop-again Inv-loop μ-loop
 loop-again c =
-    let at = c .before .before .before .before in
-    let s = at .before .before in
-    let m = s .args .t1 in
+    let at = c .before .before .before in
+    let a = at .before .args in
     let v = at .loop .inv in
     let j = at .loop .j in
-    let h = clean-held m (s .pre .0) in
-    let l : length (m .value) ≡ columns-max = search needs in
-    let ns = view m .nets in
-    let f = first-is (m .value) (s .args .t2) (m .columns) j (v .1) l (omega arith) (s .pre .1) in
-    let x = c .before .net .ensures ∙ sym (getD-take (m .columns) (m .value) j 0 (omega arith)) in
-    let u = used-at columns-max ns (view m .rows) _ j (s .pre .0 .sized .wide) (omega (arith, h .columns)) (at .before .used-columns .ensures) in
-    let e = c .goes .ensures ∙ goes-is ns (view m .rows) j _ _ _ x (f .0) u in
-    (omega arith, v .1, flags-turn (goes ns (view m .rows)) columns-max ns _ j _ (omega (arith, h .columns)) (s .pre .0 .sized .wide) (v .2) e)
+    let k : length (a .t1) ≡ columns-max = search needs in
+    let ns = take (a .n) (a .t1) in
+    let l : length ns ≡ a .n = length-take-le (a .n) (a .t1) (omega arith) in
+    let f = first-is (a .t1) (a .t3) (a .n) j (v .1) k (omega arith) (at .before .pre .1) in
+    let x = c .before .net .ensures ∙ sym (getD-take (a .n) (a .t1) j 0 (omega arith)) in
+    let e = c .goes .ensures ∙ gone-at ns (a .t4) j _ _ x (f .0) in
+    (omega arith, v .1, flags-turn (goneBy ns (a .t4)) columns-max ns _ j _ (omega arith) (omega arith) (v .2) e)
 
 returns : tie.Need-returns Inv-loop μ-loop
 returns c =
     let at = c .before in
-    let s = at .before .before in
-    let m = s .args .t1 in
-    let h = clean-held m (s .pre .0) in
-    flags-end (goes (view m .nets) (view m .rows)) columns-max (view m .nets) _ (at .loop .j) (omega (arith, h .columns)) (at .loop .inv .2)
+    let a = at .before .args in
+    let k : length (a .t1) ≡ columns-max = search needs in
+    let ns = take (a .n) (a .t1) in
+    let l : length ns ≡ a .n = length-take-le (a .n) (a .t1) (omega arith) in
+    flags-end (goneBy ns (a .t4)) columns-max ns _ (at .loop .j) (omega arith) (at .loop .inv .2)
 
 pub gone-spec : {M : Type 1} → statement M
 gone-spec =
@@ -90,10 +82,9 @@ gone-spec =
     (tie.spec
     Inv-loop
     μ-loop
-    used-columns-requires
     loop-holds
     mul-net
-    element-copy-out-net
+    array-read-net
     net-requires
     mul-goes
     array-read-goes

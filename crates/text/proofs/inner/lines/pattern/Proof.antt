@@ -1,11 +1,11 @@
 use Prim.Native.Nat.{_-_, _≤_}
 use denote.Ref.{now}
-use lib.ListN.{length, take}
+use lib.ListN.{getD, length, take}
 use mathlib.Core.List.{reverse}
 use native.Mathlib.Omega.{arith}
 use Rattle.rules.specs.Print.{grouped}
 use Rattle.text.proofs.Laws.{Todo, todo-all, todo-room, todo-more, todo-done, todo-as}
-use Rattle.text.proofs.Numbers.{trits-end, trits-on, trits-start}
+use Rattle.text.proofs.Numbers.{marked-room, trits-end, trits-on, trits-start}
 use Rattle.text.specs.Texts.{marked, trits}
 use Rattle.text.proofs.inner.lines.pattern.Statement.{statement}
 use Rattle.text.proofs.inner.lines.pattern.Tie as tie
@@ -37,7 +37,7 @@ shared-slice-read-marked c = omega arith
 
 -- src/inner/lines.rt:56:9
 marked-requires : tie.Need-marked-requires Inv-loop μ-loop
-marked-requires c κs = todo-room (marked _ _) _ (todo-as (trits-on (now (c .before .before .before .before .before .before .args .p)) (c .before .before .before .loop .i) (c .before .before .loop-test .taken) (c .before .before .before .loop .inv .0)) (c .before .before .before .loop .inv .1)) (c .before .before .before .before .before .before .pre)
+marked-requires c κs = marked-room (c .before .before .before .loop .out) (c .before .before .before .loop .a) _ _ (getD (now (c .before .before .before .before .before .before .args .p)) (c .before .before .before .loop .i - 1) 0) (todo-room (marked _ _) _ (todo-as (trits-on (now (c .before .before .before .before .before .before .args .p)) (c .before .before .before .loop .i) (c .before .before .loop-test .taken) (c .before .before .before .loop .inv .0)) (c .before .before .before .loop .inv .1)) (c .before .before .before .before .before .before .pre))
 
 -- src/inner/lines.rt:53:5
 loop-less : tie.Need-loop-less Inv-loop μ-loop

@@ -21,7 +21,7 @@ figure-requires c κs = search needs
 
 -- src/inner/put.rt:57:9
 byte-requires : tie.Need-byte-requires
-byte-requires c κs = omega (arith, c .before .before .before .before .pre .1, ap length (digits-1 (c .before .before .before .before .args .n) (c .before .before .if1 .taken)))
+byte-requires c κs = omega (arith, c .before .before .before .before .pre .1, ap length (digits-1 (c .before .before .before .before .args .n) (omega (arith, c .before .before .if1 .taken))))
 
 -- src/inner/put.rt:57:9
 same-length : tie.Need-same-length
@@ -29,7 +29,7 @@ same-length c = search needs
 
 -- src/inner/put.rt:57:9
 returns : tie.Need-returns
-returns c = put-as (ap (λ (x : ℕ). x ∷ []) (c .before .before .before .figure .ensures) ∙ sym (digits-1 (c .before .before .before .before .before .before .before .args .n) (c .before .before .before .before .before .if1 .taken))) (c .before .before .byte .ensures)
+returns c = put-as (ap (λ (x : ℕ). x ∷ []) (c .before .before .before .figure .ensures) ∙ sym (digits-1 (c .before .before .before .before .before .before .before .args .n) (omega (arith, c .before .before .before .before .before .if1 .taken)))) (c .before .before .byte .ensures)
 
 -- src/inner/put.rt:60:9
 figures-requires : tie.Need-figures-requires

@@ -52,7 +52,7 @@ wrong-requires-2 c κs = tt
 
 -- src/inner/reader.rt:82:13
 returns-2 : tie.Need-returns-2 Inv-loop μ-loop
-returns-2 c = rowed-full (c .before .before .before .before .before .before .before .before .before .before .before .args .head) (c .before .before .before .before .before .before .before .before .before .before .before .pre .1) (now (c .before .before .before .before .before .before .before .before .before .before .before .args .text)) (c .before .before .before .before .before .before .before .before .before .before .before .args .at) (c .before .before .before .before .before .before .loop .made) (c .before .before .before .before .before .before .loop .n) (c .before .before .before .before .before .before .loop .a) (c .before .before .before .before .before .before .loop .inv) (c .before .before .before .before .next .result) (c .before .before .before .before .next .ensures) (c .before .if2 .taken) (c .wrong2 .result) (c .wrong2 .ensures)
+returns-2 c = rowed-full (c .before .before .before .before .before .before .before .before .before .before .before .args .head) (c .before .before .before .before .before .before .before .before .before .before .before .pre .1) (now (c .before .before .before .before .before .before .before .before .before .before .before .args .text)) (c .before .before .before .before .before .before .before .before .before .before .before .args .at) (c .before .before .before .before .before .before .loop .made) (c .before .before .before .before .before .before .loop .n) (c .before .before .before .before .before .before .loop .a) (c .before .before .before .before .before .before .loop .inv) (c .before .before .before .before .next .result) (c .before .before .before .before .next .ensures) (omega (arith, c .before .if2 .taken, c .before .before .before .before .before .before .loop .inv .few)) (c .wrong2 .result) (c .wrong2 .ensures)
 
 -- src/inner/reader.rt:85:9
 mul-made : tie.Need-mul-made Inv-loop μ-loop
