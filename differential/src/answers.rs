@@ -94,11 +94,12 @@ impl List {
             return Asked::default();
         }
         let tree = told.answer.as_ref().ok().map(|grown| &grown.tree);
+        let outputs = original::outputs(&case.matrix);
         let assume = random.chance(30).then(|| questions::assumption(random, case));
         let together = tree.is_some_and(|tree| tree.leaves().iter().any(|rules| rules.len() > 1));
         let percent = if together { 90 } else { 40 };
-        let disjoint = tree.filter(|_| random.chance(percent)).map(|tree| questions::disjoint(random, case, tree));
-        let enables = tree.filter(|_| random.chance(40)).map(|tree| questions::enables(random, case, tree));
+        let disjoint = tree.filter(|_| random.chance(percent)).map(|tree| questions::disjoint(random, &outputs, tree));
+        let enables = tree.filter(|_| random.chance(40)).map(|tree| questions::enables(random, &outputs, tree));
         let enables = enables.filter(|enables| !enables.is_empty());
         let damaged = random.chance(25).then(|| damage::damaged(random, &text, Bytes::Printable));
         Asked { assume, disjoint, enables, damaged }

@@ -85,15 +85,28 @@ impl Matrix {
 }
 
 impl Tree {
+    /// The rules of every leaf, the zero arm's before the one arm's.
     pub fn leaves(&self) -> Vec<&[Net]> {
+        let mut leaves = Vec::new();
+        self.push_leaves(&mut leaves);
+        leaves
+    }
+
+    fn push_leaves<'a>(&'a self, leaves: &mut Vec<&'a [Net]>) {
         match self {
-            Tree::Leaf(rules) => vec![rules],
-            Tree::Branch { zero, one, .. } => [zero.leaves(), one.leaves()].concat(),
+            Tree::Leaf(rules) => leaves.push(rules),
+            Tree::Branch { zero, one, .. } => {
+                zero.push_leaves(leaves);
+                one.push_leaves(leaves);
+            }
         }
     }
 
     /// Nodes, leaves and branches together.
     pub fn size(&self) -> usize {
-        2 * self.leaves().len() - 1
+        match self {
+            Tree::Leaf(_) => 1,
+            Tree::Branch { zero, one, .. } => zero.size() + one.size() + 1,
+        }
     }
 }

@@ -36,10 +36,10 @@ fn of_tree(random: &mut Random, told: &Told) -> Option<&'static str> {
     let Ok(grown) = &told.answer else { return None };
     let case = &told.case;
     let (tree, outputs) = (original::tree(case), original::outputs(&case.matrix));
-    let asked = questions::disjoint(random, case, &tree);
+    let asked = questions::disjoint(random, &outputs, &tree);
     let disjoint =
         (!model::overlaps(&tree, &asked.updates)).then(|| words::disjoint(&tree, &asked.updates, &asked.default));
-    let enables = questions::enables(random, case, &tree);
+    let enables = questions::enables(random, &outputs, &tree);
     let fits = |store: usize| model::grow(case, store).is_some();
     first([
         ("tree", grown.tree == tree && grown.size == tree.size()),

@@ -6,8 +6,8 @@ use std::process::ExitCode;
 use differential::port::{self, bench};
 use differential::{answers, cells, meaning, settings, stats};
 
-const USAGE: &str = "usage: settings | stats | small | lists | answers | print | pass | port | bench | count, with \
-                     --seed N, --cases N; port, bench and count need the feature port";
+const USAGE: &str = "usage: settings | stats | small | lists | answers | print | pass | port | sample | bench | count, with \
+                     --seed N, --cases N, and count with --family NAME; the last four need the feature port";
 
 fn main() -> ExitCode {
     let arguments: Vec<String> = std::env::args().skip(1).collect();
@@ -24,9 +24,11 @@ fn main() -> ExitCode {
         #[cfg(feature = "port")]
         Some("port") => port::run(seed, cases(20_000)),
         #[cfg(feature = "port")]
+        Some("sample") => port::sample(seed, cases(10_000)),
+        #[cfg(feature = "port")]
         Some("bench") => bench::run(seed),
         #[cfg(feature = "port")]
-        Some("count") => bench::count(seed),
+        Some("count") => bench::count(seed, option(&arguments, "--family")),
         _ => {
             eprintln!("{USAGE}");
             false
@@ -40,8 +42,13 @@ fn shown(print: impl FnOnce()) -> bool {
     true
 }
 
+/// What stands after the option.
+fn option<'a>(arguments: &'a [String], option: &str) -> Option<&'a str> {
+    let place = arguments.iter().position(|argument| argument == option)?;
+    arguments.get(place + 1).map(String::as_str)
+}
+
 /// The number after the option, or what stands for it.
-fn number(arguments: &[String], option: &str, otherwise: u64) -> u64 {
-    let place = arguments.iter().position(|argument| argument == option);
-    place.and_then(|place| arguments.get(place + 1)).and_then(|text| text.parse().ok()).unwrap_or(otherwise)
+fn number(arguments: &[String], name: &str, otherwise: u64) -> u64 {
+    option(arguments, name).and_then(|text| text.parse().ok()).unwrap_or(otherwise)
 }

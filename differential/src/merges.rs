@@ -21,7 +21,8 @@ fn made_by(random: &mut Random, merge: Merge) -> Case {
     Case { merge: Some(merge), ..case }
 }
 
-fn merge_into(random: &mut Random, parent: Matrix) -> Merge {
+/// A small child for the parent, mostly at a net that it names.
+pub fn merge_into(random: &mut Random, parent: Matrix) -> Merge {
     let named = original::outputs(&parent);
     let at = match named.is_empty() || random.chance(5) {
         true if random.chance(40) => random.pick(&[Net::ZERO, Net::ONE, Net::UNDEF]),

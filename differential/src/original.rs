@@ -11,5 +11,6 @@ mod probe;
 
 pub use pass::{Gathered, chains, gathered, prefix};
 pub use probe::{
-    Opened, assume, disjoint, enabled, merge, normalize, normalized, one_hot, outputs, print_matrix, print_tree, tree,
+    Opened, added, assume, built, disjoint, disjoint_after, enabled, merge, normalize, normalized, one_hot,
+    one_hot_after, outputs, print_matrix, print_tree, tree,
 };

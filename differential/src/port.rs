@@ -2,24 +2,61 @@
 
 pub mod bench;
 pub mod compare;
+mod dispatches;
+mod drawn;
+mod emission;
 pub mod flat;
 pub mod foreign;
+mod forms;
+mod handed;
+mod matrices;
+mod prefixes;
 pub mod store;
+mod tables;
+mod texts;
+mod trees;
+mod values;
 
+use crate::case::Case;
 use crate::generate::Generator;
-use crate::kinds::Told;
+use crate::kinds::Counts;
 use crate::random::Random;
 use crate::small;
 use crate::stats::Run;
 
-/// Seeded cases, then every small one; true if every kind has its share and nothing differs.
+/// Seeded cases, then every small one; true if every kind has its share, every subject was compared and nothing differs.
 pub fn run(seed: u64, cases: usize) -> bool {
     let mut random = Random::new(!seed);
-    let mut difference = |told: &Told| compare::difference(&mut random, told);
-    let seeded = Run::over(Generator::new(seed).take(cases), &mut difference);
+    let (seeded, of_seeded) = over(&mut random, Generator::new(seed).take(cases));
     println!("seed {seed}, {cases} cases");
     let enough = seeded.print_shares();
     let every_size = seeded.print_sizes();
     println!("and every small case");
-    seeded.and(Run::over(small::cases(), difference)).print_end() && enough && every_size
+    let (small, of_small) = over(&mut random, small::cases());
+    let every_subject = print_subjects(&of_seeded, &of_small);
+    seeded.and(small).print_end() && enough && every_size && every_subject
+}
+
+/// Seeded cases alone, for the gate; true if nothing differs.
+pub fn sample(seed: u64, cases: usize) -> bool {
+    let (seeded, _) = over(&mut Random::new(!seed), Generator::new(seed).take(cases));
+    seeded.print_end()
+}
+
+fn over(random: &mut Random, cases: impl Iterator<Item = Case>) -> (Run, Counts) {
+    let mut counts = Counts::default();
+    let run = Run::over(cases, |told| compare::difference(random, &mut counts, told));
+    (run, counts)
+}
+
+/// Prints how often each subject was compared, in seeded and in small cases; true if each was in seeded ones.
+fn print_subjects(seeded: &Counts, small: &Counts) -> bool {
+    println!("{:34} {:>10} {:>10}", "compared", "seeded", "small");
+    let line = |subject: &&str| {
+        let (seeded, small) = (seeded.of(subject), small.of(subject));
+        println!("{subject:34} {seeded:10} {small:10}{}", if seeded == 0 { " never" } else { "" });
+        seeded > 0
+    };
+    [compare::TREES, compare::DRAWN_TREES].iter().chain(&compare::SUBJECTS).filter(|subject| !line(subject)).count()
+        == 0
 }

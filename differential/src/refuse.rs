@@ -1,7 +1,7 @@
-//! 01's refusal numbers for merge, dispatch and emission: the lowest that applies.
+//! 01's refusal numbers for matrices, dispatch and emission: the lowest that applies.
 
 use crate::case::{
-    CELL_MAX, COLUMNS_MAX, Case, MUXES_MAX, Matrix, Merge, NODES_MAX, ROWS_MAX, RULES_MAX, Tree, WIDTH_MAX,
+    CELL_MAX, COLUMNS_MAX, Case, MUXES_MAX, Matrix, Merge, NODES_MAX, ROWS_MAX, RULES_MAX, Row, Tree, WIDTH_MAX,
 };
 use crate::{Net, model};
 
@@ -15,6 +15,8 @@ pub const NODES: u8 = 7;
 pub const WIDTH: u8 = 8;
 pub const OVERLAP: u8 = 9;
 pub const ROOM: u8 = 10;
+pub const LINE: u8 = 11;
+pub const FORM: u8 = 12;
 
 /// 1 to 5, of a matrix as it stands.
 pub fn of_matrix(matrix: &Matrix) -> Option<u8> {
@@ -29,6 +31,28 @@ pub fn of_matrix(matrix: &Matrix) -> Option<u8> {
         (RULES, rows.iter().any(|row| row.rules.len() > RULES_MAX)),
     ];
     lowest(holds)
+}
+
+/// 1 and 4, of the nets of a new matrix.
+pub fn of_new(value: &[Net]) -> Option<u8> {
+    lowest([(COLUMNS, value.len() > COLUMNS_MAX), (NET, value.iter().copied().any(too_high))])
+}
+
+/// 1 to 5, of a row to be added, whose rules come in any order and repeat.
+pub fn of_add(matrix: &Matrix, row: &Row) -> Option<u8> {
+    let rules = Row::new(vec![], row.rules.clone()).rules;
+    let holds = [
+        (ROWS, matrix.rows.len() == ROWS_MAX),
+        (SHAPE, row.pattern.len() != matrix.value.len()),
+        (NET, !rules.iter().all(|&net| net.is_cell() && !too_high(net))),
+        (RULES, rules.len() > RULES_MAX),
+    ];
+    [of_matrix(matrix), lowest(holds)].into_iter().flatten().min()
+}
+
+/// 1 to 5, of assuming something of the net.
+pub fn of_assume(matrix: &Matrix, target: Net) -> Option<u8> {
+    [of_matrix(matrix), too_high(target).then_some(NET)].into_iter().flatten().min()
 }
 
 /// 1 to 5, of a merge: parent, child, point and the matrix to be made.
@@ -67,6 +91,7 @@ fn too_high(net: Net) -> bool {
     net.number().is_some_and(|number| number > CELL_MAX)
 }
 
-fn lowest<const N: usize>(holds: [(u8, bool); N]) -> Option<u8> {
+/// The lowest number of those that hold.
+pub fn lowest<const N: usize>(holds: [(u8, bool); N]) -> Option<u8> {
     holds.into_iter().filter_map(|(number, holds)| holds.then_some(number)).min()
 }

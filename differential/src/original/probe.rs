@@ -5,7 +5,7 @@ use std::panic::{self, AssertUnwindSafe};
 
 use super::{Decision, MatchMatrix, MatchRow};
 use crate::case::{Case, Emission, Matrix, Merge, Row, Tree, Update};
-use crate::{Const, Design, Net, Trit, Value};
+use crate::{Const, Design, Mux, Net, Trit, Value};
 
 /// The original's own matrix, for a walk that asks it step by step.
 #[derive(Clone)]
@@ -48,9 +48,13 @@ impl Opened {
 fn open(matrix: &Matrix) -> MatchMatrix {
     let mut opened = MatchMatrix::new(matrix.value.clone());
     for row in &matrix.rows {
-        opened.add(MatchRow::new(Const::from(row.pattern.clone()), row.rules.iter().copied()));
+        opened.add(open_row(row));
     }
     opened
+}
+
+fn open_row(row: &Row) -> MatchRow {
+    MatchRow::new(Const::from(row.pattern.clone()), row.rules.iter().copied())
 }
 
 pub(super) fn close(matrix: MatchMatrix) -> Matrix {
@@ -77,6 +81,18 @@ fn close_tree(decision: Decision) -> Tree {
             Tree::Branch { test, zero: close_tree(*if0).into(), one: close_tree(*if1).into() }
         }
     }
+}
+
+/// The matrix that the original builds of rows whose rules come in any order and repeat.
+pub fn built(matrix: &Matrix) -> Matrix {
+    close(open(matrix))
+}
+
+/// One row more; none where the original panics, which it does at a pattern of another length than the value.
+pub fn added(matrix: &Matrix, row: &Row) -> Option<Matrix> {
+    let mut opened = open(matrix);
+    quietly(|| opened.add(open_row(row)))?;
+    Some(close(opened))
 }
 
 pub fn merge(merge: &Merge) -> Matrix {
@@ -119,18 +135,35 @@ pub fn print_tree(tree: &Tree) -> String {
 }
 
 pub fn one_hot(tree: &Tree, outputs: &[Net]) -> Emission {
-    let design = Design::new();
+    one_hot_after(&[], tree, outputs)
+}
+
+/// With muxes that are there before; the emission has them first.
+pub fn one_hot_after(used: &[Mux], tree: &Tree, outputs: &[Net]) -> Emission {
+    let design = with_muxes(used);
     let value = open_tree(tree).emit_one_hot_mux(&design, &Value::from(outputs.to_vec()));
     Emission { muxes: design.muxes(), value: value.to_vec() }
 }
 
 /// None where the original panics, which it does at a leaf that holds two rules with updates.
 pub fn disjoint(tree: &Tree, updates: &[Update], default: &[Net]) -> Option<Emission> {
-    let design = Design::new();
+    disjoint_after(&[], tree, updates, default)
+}
+
+/// With muxes that are there before; the emission has them first.
+pub fn disjoint_after(used: &[Mux], tree: &Tree, updates: &[Update], default: &[Net]) -> Option<Emission> {
+    let design = with_muxes(used);
     let values = BTreeMap::from_iter(updates.iter().map(|(net, bits)| (*net, Value::from(bits.clone()))));
     let decision = open_tree(tree);
     let value = quietly(|| decision.emit_disjoint_mux(&design, &values, &Value::from(default.to_vec())))?;
     Some(Emission { muxes: design.muxes(), value: value.to_vec() })
+}
+
+fn with_muxes(used: &[Mux]) -> Design {
+    let design = Design::new();
+    let bit = |net: Net| Value::from(vec![net]);
+    used.iter().for_each(|mux| drop(design.add_mux(mux.select, bit(mux.one), bit(mux.zero))));
+    design
 }
 
 /// None where it panics; the panic prints nothing.

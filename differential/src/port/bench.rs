@@ -12,11 +12,29 @@ use crate::original::Opened;
 use crate::random::Random;
 use crate::{Net, Trit, refuse};
 
-/// Columns and rows of each family, the catch-all counted; the enable is 1 and adds none.
-const FAMILIES: [(usize, usize); 5] = [(2, 4), (4, 10), (8, 24), (10, 40), (16, 64)];
-/// The family whose instructions are counted.
-const COUNTED: (usize, usize) = (8, 24);
-/// The columns that nearly every row looks at.
+/// Matrices of one kind, the catch-all counted among the rows; the enable is 1 and adds none.
+struct Family {
+    name: &'static str,
+    columns: usize,
+    rows: usize,
+    draw: fn(&mut Random, usize, usize) -> Case,
+}
+
+const FAMILIES: [Family; 10] = [
+    Family { name: "decoder 2 x 4", columns: 2, rows: 4, draw: decoder },
+    Family { name: "decoder 4 x 10", columns: 4, rows: 10, draw: decoder },
+    Family { name: "decoder 7 x 30", columns: 7, rows: 30, draw: decoder },
+    Family { name: "decoder 8 x 24", columns: 8, rows: 24, draw: decoder },
+    Family { name: "decoder 10 x 40", columns: 10, rows: 40, draw: decoder },
+    Family { name: "decoder 16 x 64", columns: 16, rows: 64, draw: decoder },
+    Family { name: "priority 16 x 17", columns: 16, rows: 17, draw: priority },
+    Family { name: "whole 16 x 46", columns: 16, rows: 46, draw: whole },
+    Family { name: "random 12 x 64", columns: 12, rows: 64, draw: tenth },
+    Family { name: "one rule 16 x 64", columns: 16, rows: 64, draw: one_rule },
+];
+/// The family whose instructions are counted where none is named.
+const COUNTED: &str = "decoder 8 x 24";
+/// The columns of a decoder that nearly every row looks at.
 const OPCODE_MOST: usize = 7;
 /// Matrices of a family, and timed runs for each.
 const MATRICES: usize = 32;
@@ -35,35 +53,41 @@ struct Subject {
 pub fn run(seed: u64) -> bool {
     println!("| columns x rows | nodes, mean | original | port | port / original |");
     println!("|---|---|---|---|---|");
-    let mut random = Random::new(seed);
     let mut store = [0; RUN * NODES_MAX];
-    for (columns, rows) in FAMILIES {
-        let subjects = family(&mut random, columns, rows);
+    for family in &FAMILIES {
+        let subjects = subjects(seed, family);
         let nodes = subjects.iter().map(|subject| subject.size).sum::<usize>() / subjects.len();
         let original = time(&subjects, by_original);
         let port = time(&subjects, |subject| by_port(subject, &mut store));
         let ratio = port / original;
-        println!("| {columns} x {rows} | {nodes} | {original:.2} us | {port:.2} us | {ratio:.2} |");
+        println!("| {} | {nodes} | {original:.2} us | {port:.2} us | {ratio:.2} |", family.name);
     }
     true
 }
 
 /// Dispatches each matrix of one family once on each side, for a tool that counts instructions in the two functions.
-pub fn count(seed: u64) -> bool {
-    let (columns, rows) = COUNTED;
-    let subjects = family(&mut Random::new(seed), columns, rows);
+/// They are the matrices that are timed. The family goes by its name or its place in the table, from 1.
+pub fn count(seed: u64, asked: Option<&str>) -> bool {
+    let asked = asked.unwrap_or(COUNTED);
+    let named = |(place, family): &(usize, &Family)| family.name == asked || (place + 1).to_string() == asked;
+    let Some((_, family)) = FAMILIES.iter().enumerate().find(named) else {
+        eprintln!("no family {asked}; there are {:?}", FAMILIES.map(|family| family.name));
+        return false;
+    };
+    let subjects = subjects(seed, family);
     subjects.iter().for_each(by_original);
     let mut store = [0; RUN * NODES_MAX];
     subjects.iter().for_each(|subject| by_port(subject, &mut store));
-    println!("{columns} x {rows}: {} dispatches in by_original, as many in by_port", subjects.len());
+    println!("{}: {} dispatches in by_original, as many in by_port", family.name, subjects.len());
     true
 }
 
-/// Decoders whose trees fit a store of 1,024 nodes; others are drawn again.
-fn family(random: &mut Random, columns: usize, rows: usize) -> Vec<Subject> {
+/// Matrices whose trees fit a store of 1,024 nodes; others are drawn again. Each family begins from the seed.
+fn subjects(seed: u64, family: &Family) -> Vec<Subject> {
+    let mut random = Random::new(seed);
     let mut subjects = Vec::new();
     while subjects.len() < MATRICES {
-        let case = decoder(random, columns, rows);
+        let case = (family.draw)(&mut random, family.columns, family.rows);
         if let Ok(grown) = refuse::dispatch(&case) {
             let (opened, given) = (Opened::new(&case), flat(&case.matrix, CLEAN));
             subjects.push(Subject { opened, given, size: grown.size });
@@ -78,15 +102,58 @@ fn decoder(random: &mut Random, columns: usize, rows: usize) -> Case {
     let undefs = |column: usize| if column < OPCODE_MOST { 5 } else { 97 };
     let mut table = Vec::new();
     for _ in 1..rows {
-        let trit = |column| match random.chance(undefs(column)) {
-            true => Trit::Undef,
-            false => random.pick(&[Trit::Zero, Trit::One]),
-        };
-        let pattern = (0..columns).map(trit).collect();
+        let pattern = pattern(random, columns, undefs);
         table.push(Row::new(pattern, vec![random.pick(&outputs)]));
     }
-    table.push(Row::new(vec![Trit::Undef; columns], vec![]));
-    let matrix = case::Matrix { value: cells(random, columns), rows: table };
+    case(random, columns, table, vec![])
+}
+
+/// Row k wants column k to be 1 and looks at no other: the lowest that is set wins.
+fn priority(random: &mut Random, columns: usize, rows: usize) -> Case {
+    let outputs = cells(random, rows - 1);
+    let bit = |row: usize, column: usize| if row == column { Trit::One } else { Trit::Undef };
+    let pattern = |row: usize| (0..columns).map(|column| bit(row, column)).collect();
+    let table = outputs.iter().enumerate().map(|(row, &rule)| Row::new(pattern(row), vec![rule])).collect();
+    case(random, columns, table, vec![])
+}
+
+/// Whole addresses, each with a rule of its own.
+fn whole(random: &mut Random, columns: usize, rows: usize) -> Case {
+    own_rules(random, columns, rows, 0)
+}
+
+/// One trit in ten is X, each row has a rule of its own.
+fn tenth(random: &mut Random, columns: usize, rows: usize) -> Case {
+    own_rules(random, columns, rows, 10)
+}
+
+fn own_rules(random: &mut Random, columns: usize, rows: usize, undefs: usize) -> Case {
+    let rules = cells(random, rows - 1);
+    let row = |rule: &Net| Row::new(pattern(random, columns, |_| undefs), vec![*rule]);
+    let table = rules.iter().map(row).collect();
+    case(random, columns, table, vec![])
+}
+
+/// Every row, the catch-all too, has the one rule: all paths are walked, and a single leaf comes of it.
+fn one_rule(random: &mut Random, columns: usize, rows: usize) -> Case {
+    let rule = cells(random, 1);
+    let table = (1..rows).map(|_| Row::new(pattern(random, columns, |_| 10), rule.clone())).collect();
+    case(random, columns, table, rule)
+}
+
+/// Each column's trit is X so many times in a hundred, else 0 or 1.
+fn pattern(random: &mut Random, columns: usize, undefs: impl Fn(usize) -> usize) -> Vec<Trit> {
+    let trit = |column| match random.chance(undefs(column)) {
+        true => Trit::Undef,
+        false => random.pick(&[Trit::Zero, Trit::One]),
+    };
+    (0..columns).map(trit).collect()
+}
+
+/// The rows and a catch-all with these rules, over columns that are all different.
+fn case(random: &mut Random, columns: usize, mut rows: Vec<Row>, last: Vec<Net>) -> Case {
+    rows.push(Row::new(vec![Trit::Undef; columns], last));
+    let matrix = case::Matrix { value: cells(random, columns), rows };
     Case { family: "bench", matrix, enable: Net::ONE, merge: None }
 }
 

@@ -1,7 +1,7 @@
 //! Matrices as the port holds them: slots and counts, numbers for nets and trits.
 
 use super::foreign::{Matrix, Row, Rules};
-use crate::case::{self, COLUMNS_MAX, ROWS_MAX, RULES_MAX};
+use crate::case::{self, COLUMNS_MAX, RULES_MAX};
 use crate::{Net, Trit};
 
 /// What stands in the slots past every count: nothing in a matrix that a call makes, anything in one handed in.
@@ -36,7 +36,7 @@ pub fn flat(matrix: &case::Matrix, past: Past) -> Matrix {
     }
 }
 
-fn flat_row(row: &case::Row, past: Past) -> Row {
+pub fn flat_row(row: &case::Row, past: Past) -> Row {
     let items = slots(row.rules.iter().copied().map(code), past.wide());
     Row {
         pattern: slots(row.pattern.iter().copied().map(trit), past.0),
@@ -45,17 +45,21 @@ fn flat_row(row: &case::Row, past: Past) -> Row {
     }
 }
 
-fn slots<T: Copy, const N: usize>(items: impl Iterator<Item = T>, past: T) -> [T; N] {
+pub fn slots<T: Copy, const N: usize>(items: impl Iterator<Item = T>, past: T) -> [T; N] {
     let mut slots = [past; N];
     slots.iter_mut().zip(items).for_each(|(slot, item)| *slot = item);
     slots
 }
 
-fn code(net: Net) -> u16 {
+pub fn code(net: Net) -> u16 {
     u16::try_from(net.code()).expect("cases have no cell over 65,532")
 }
 
-fn trit(trit: Trit) -> u8 {
+pub fn codes(nets: &[Net]) -> Vec<u16> {
+    nets.iter().copied().map(code).collect()
+}
+
+pub fn trit(trit: Trit) -> u8 {
     match trit {
         Trit::Zero => 0,
         Trit::One => 1,
@@ -63,7 +67,6 @@ fn trit(trit: Trit) -> u8 {
     }
 }
 
-/// The slots in use of each kind: a count may say more than there are.
-pub fn in_use(matrix: &Matrix) -> (usize, usize) {
-    (matrix.columns.min(COLUMNS_MAX), matrix.count.min(ROWS_MAX))
+pub fn trits(pattern: &[Trit]) -> Vec<u8> {
+    pattern.iter().copied().map(trit).collect()
 }

@@ -4,7 +4,7 @@ use crate::Net;
 use crate::case::{NODES_MAX, RULES_MAX, Tree};
 
 /// A leaf is its count of rules and their cells, ascending; a branch is this mark, its test and the size of its one arm.
-const BRANCH: u16 = RULES_MAX as u16 + 1;
+pub const BRANCH: u16 = RULES_MAX as u16 + 1;
 pub const RUN: usize = RULES_MAX + 1;
 
 /// The store that dispatch must leave where `old` stood: the tree or none, zeros to the end of its use, then as before.
@@ -12,10 +12,16 @@ pub fn after(tree: Option<&Tree>, old: &[u16]) -> Vec<u16> {
     let mut store = old.to_vec();
     let used = RUN * (old.len() / RUN).min(NODES_MAX);
     store[..used].fill(0);
-    let mut nodes = Vec::new();
-    tree.iter().for_each(|tree| push(&mut nodes, tree));
+    let nodes = tree.map(numbers).unwrap_or_default();
     store[..nodes.len()].copy_from_slice(&nodes);
     store
+}
+
+/// The tree's own numbers, and nothing after them.
+pub fn numbers(tree: &Tree) -> Vec<u16> {
+    let mut nodes = Vec::new();
+    push(&mut nodes, tree);
+    nodes
 }
 
 /// The zero arm's nodes, then the one arm's, then the branch.

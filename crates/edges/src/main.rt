@@ -1,0 +1,50 @@
+// Settings 1 to 9 of 01 on the code, and the edges of stores, tables, updates and prefixes, run and written out.
+// The lines of `stdout` are 01's own words and numbers, or arithmetic on them; docs/EDGES.md says which.
+mod ahead;
+mod apart;
+mod hot;
+mod numbers;
+mod planted;
+mod say;
+
+fn main() {
+    stores();
+    one_hots();
+    disjoints();
+    prefixes();
+}
+
+fn stores() {
+    planted::settings();
+    planted::more_settings();
+    planted::lengths();
+    planted::long_lengths();
+    planted::no_catch();
+    planted::orders();
+    planted::more_orders();
+}
+
+fn one_hots() {
+    hot::settings();
+    hot::widths();
+    hot::nets();
+    hot::rooms();
+    hot::long_tables();
+    hot::tables();
+    hot::trees();
+}
+
+fn disjoints() {
+    apart::updates();
+    apart::overlaps();
+    apart::widths();
+    apart::nets();
+    apart::rooms();
+    apart::trees();
+}
+
+fn prefixes() {
+    ahead::lengths();
+    ahead::leaves();
+    ahead::codes();
+}

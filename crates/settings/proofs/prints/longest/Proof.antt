@@ -1,0 +1,49 @@
+use Prim.Native.Nat.{_-_}
+use borrow.Author.Needs.{needs}
+use Rattle.settings.proofs.prints.longest.Statement.{statement}
+use Rattle.settings.proofs.prints.longest.Tie as tie
+
+abbrev Inv-loop : tie.InvT-loop
+Inv-loop m₀ k₀ m k = Unit {0}
+
+abbrev μ-loop : tie.MeasureT-loop
+μ-loop m₀ k₀ m k = 64 - k
+
+slice-aggregate-new : tie.Need-slice-aggregate-new Inv-loop μ-loop
+slice-aggregate-new c = search needs
+
+new-requires : tie.Need-new-requires Inv-loop μ-loop
+new-requires c κs = search needs
+
+loop-holds : tie.Need-loop-holds Inv-loop μ-loop
+loop-holds c = tt
+
+with-row-requires : tie.Need-with-row-requires Inv-loop μ-loop
+with-row-requires c κs = search needs
+
+add-k : tie.Need-add-k Inv-loop μ-loop
+add-k c = search needs
+
+loop-less : tie.Need-loop-less Inv-loop μ-loop
+loop-less c = search needs
+
+loop-again : tie.Need-loop-again Inv-loop μ-loop
+loop-again c = tt
+
+returns : tie.Need-returns Inv-loop μ-loop
+returns c = search needs
+
+pub longest-spec : {M : Type 1} → statement M
+longest-spec =
+    tie.close
+    (tie.spec
+    Inv-loop
+    μ-loop
+    slice-aggregate-new
+    new-requires
+    loop-holds
+    with-row-requires
+    add-k
+    loop-less
+    loop-again
+    returns)

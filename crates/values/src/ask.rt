@@ -1,0 +1,42 @@
+// A net asked of a table, and what the evaluator answers: a line.
+const OUT: i32 = 1;
+
+fn text(s: &[u8]) {
+    io::write_all(OUT, s);
+}
+
+fn trit(t: rules::Trit) {
+    match t {
+        rules::Trit::Zero => text(b"0\n"),
+        rules::Trit::One => text(b"1\n"),
+        rules::Trit::Undef => text(b"X\n"),
+    }
+}
+
+pub fn refused(no: u8) {
+    text(b"refused ");
+    io::print_decimal(OUT, no as u64);
+    text(b"\n");
+}
+
+fn answer(v: evaluate::Value) {
+    match v {
+        evaluate::Value::Trit(t) => trit(t),
+        evaluate::Value::Refused(no) => refused(no),
+    }
+}
+
+pub fn net(name: &[u8], table: &[u16], count: usize, trits: &[u8], asked: rules::Net) {
+    text(name);
+    answer(evaluate::evaluate(table, count, trits, asked));
+}
+
+pub fn cell(name: &[u8], table: &[u16], count: usize, trits: &[u8], asked: u16) {
+    net(
+        name,
+        table,
+        count,
+        trits,
+        rules::Net::Cell(rules::Cell(asked)),
+    );
+}
