@@ -15,7 +15,7 @@ use Rattle.lists.specs.Bools.{by-bool, or-no}
 use Rattle.lists.specs.Vec.{getD-vec, push, vec}
 use Rattle.matrix.proofs.StepHeld.{getD-any, none-row}
 use Rattle.rows.proofs.Laws.{vec-last}
-use Rattle.rules.proofs.Columns.{test-mem}
+use Rattle.rules.proofs.Columns.{best-in, test-mem}
 use Rattle.rules.proofs.Evals.{Cells}
 use Rattle.rules.specs.Dispatch.{best, column, countX, done, test}
 use Rattle.rules.specs.Matrix.{Matrix, Row}
@@ -113,14 +113,6 @@ least-keep cs n i b h l =
 pub least-end : (cs : List ℕ) (n i b : ℕ) → n ≤ i → least cs (n - i) i b ≡ b
 unfolding least
 least-end cs n i b h = let s : n - i ≡ 0 = omega arith in rw s
-
-pub best-in : (rows : List Row) (ns : List ℕ) (i b n : ℕ) → b < n → i + length ns ≤ n → best rows ns i b < n
-unfolding best
-best-in rows [] i b n h l = h
-best-in rows (x ∷ ns) i b n h l =
-    let one = best-in rows ns (i + 1) i n (omega arith) (omega arith) in
-    let two = best-in rows ns (i + 1) b n h (omega arith) in
-    by-bool (ltb (countX rows i) (countX rows b)) (λ p. rw p one) (λ p. rw p two)
 
 -- by the counts of an array
 pub least-best : (rows : List Row) (cs ns : List ℕ) (i b n : ℕ) → ((j : ℕ) → j < n → getD cs j 0 ≡ countX rows j) → b < n → i + length ns ≤ n

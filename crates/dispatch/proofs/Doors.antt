@@ -15,14 +15,14 @@ use Rattle.matrix.proofs.Views.{clean-is}
 use Rattle.matrix.specs.declared.Made.{Made}
 use Rattle.matrix.specs.declared.Matrix.{Matrix}
 use Rattle.matrix.specs.Mat.{given, madeFrom, matrixFrom, view}
-use Rattle.rules.proofs.Accepts.{all-mem, fine-row, is-not, not-over}
+use Rattle.rules.proofs.Accepts.{all-mem, fine-rows, is-not, not-over}
 use Rattle.rules.proofs.Givens.{sized-by-tests}
-use Rattle.rules.proofs.Leafs.{Named}
+use Rattle.rules.proofs.Leafs.{Named, widened-named}
 use Rattle.rules.proofs.Picks.{none-applies}
 use Rattle.rules.specs.Answers.{dispatchAnswer, dispatchStore, enableAnswer}
 use Rattle.rules.specs.Bounds.{columns-max, rows-max}
 use Rattle.rules.specs.Dispatch.{catchAll, dispatch, peakOf, rawOf}
-use Rattle.rules.specs.Given.{ascends, badColumns, badForm, badNet, badRows, badRules, badShape, formedRow, Given, Sized, SizedRows, Slots, tooTall, tooWide, view as viewOf}
+use Rattle.rules.specs.Given.{ascends, badColumns, badForm, badNet, badRows, badRules, badShape, formedRow, Given, Sized, Slots, tooTall, tooWide, view as viewOf}
 use Rattle.rules.specs.Matrix.{addEnable, Matrix as MatrixOf, Row, widened}
 use Rattle.rules.specs.Nets.{first-mux, isName, isNet, over}
 use Rattle.rules.specs.Refusals.{dispatchTable, enableTable}
@@ -96,19 +96,6 @@ module _ (e : ℕ) (g : Given) (xs : List ℕ) where
       (rw (y, a), rw y c)
 
 -- ---- what is dispatched where there is none
-
-fine-rows : (w : ℕ) (rs : List Row) → all formedRow rs ≡ true → all (λ (r : Row). all isName (r .rules)) rs ≡ true → SizedRows w rs → Named Fine rs
-unfolding Named SizedRows
-fine-rows w [] f n s = tt
-fine-rows w (r ∷ rs) f n s = (
-  fine-row r (and-left (formedRow r) (all formedRow rs) f) (and-left (all isName (r .rules)) (all (λ (x : Row). all isName (x .rules)) rs) n) (s .1),
-  fine-rows w rs (and-right (formedRow r) (all formedRow rs) f) (and-right (all isName (r .rules)) (all (λ (x : Row). all isName (x .rules)) rs) n) (s .2),
-)
-
-widened-named : (P : List ℕ → Type 0) (rs : List Row) → Named P rs → Named P (map widened rs)
-unfolding Named
-widened-named P [] h = tt
-widened-named P (r ∷ rs) h = (h .0, widened-named P rs (h .1))
 
 mem-snoc : (ns : List ℕ) (e n : ℕ) → ((k : ℕ) → mem k ns ≡ true → k < first-mux) → e < first-mux → mem n (ns ++ (e ∷ [])) ≡ true → n < first-mux
 unfolding mem

@@ -4,7 +4,7 @@ use lib.Dec.{ltb}
 use lib.ListN.{getD, take}
 use mathlib.Core.Bool.{true}
 use mathlib.Core.List.{[], _∷_, List, map}
-use mathlib.Core.Option.{none, Option, some}
+use mathlib.Core.Option.{none}
 use mathlib.Core.Path.{_∙_, _≡_, ap, refl, subst, sym}
 use native.Mathlib.Omega.{arith}
 use Prim.Native.Nat.{_<_, _≤_, ℕ}
@@ -15,7 +15,7 @@ use Rattle.matrix.proofs.StepHeld.{past, zero-row}
 use Rattle.rows.specs.declared.Row.{Row}
 use Rattle.rows.specs.Rows.{rowFrom}
 use Rattle.rules.proofs.Columns.{columns-from, swap-from}
-use Rattle.rules.proofs.Leafs.{dispatch-leaves, Named}
+use Rattle.rules.proofs.Leafs.{dispatch-leaves, keep-named, moved-named}
 use Rattle.rules.proofs.Stores.{Cells, fine-cells, fine-fit}
 use Rattle.rules.proofs.Tested.{dispatch-cells}
 use Rattle.rules.specs.Bounds.{rows-max, rules-max}
@@ -23,7 +23,7 @@ use Rattle.rules.specs.Dispatch.{dispatch, headRules, rawOf}
 use Rattle.rules.specs.Given.{ascends, SizedRows}
 use Rattle.rules.specs.Matrix.{assume, Matrix, Row as RowOf}
 use Rattle.rules.specs.Nets.{isCell}
-use Rattle.rules.specs.Normalize.{again, asked, keep, kept, moved, normalize, sound, stay}
+use Rattle.rules.specs.Normalize.{asked, kept, normalize, stay}
 use Rattle.rules.specs.Tree.{fine, Fit, leaf, Leaves, node, reduce, Tests, Tree}
 
 -- ---- the first slot of a clean matrix
@@ -40,19 +40,6 @@ first-rules w [] l s e = ap (λ (v : List Row). take (getD v 0 past .rules .coun
 first-rules w (r ∷ rs) l s e = ap (λ (v : List Row). take (getD v 0 past .rules .count) (getD v 0 past .rules .items)) e ∙ take-vec rules-max 0 (r .rules) (s .1)
 
 -- ---- plain matrices
-
-keep-named : (P : List ℕ → Type 0) (ns : List ℕ) (last : Option (List ℕ)) (rs : List RowOf) → Named P rs → Named P (keep ns last rs)
-unfolding keep Named
-keep-named P ns last [] h = tt
-keep-named P ns last (r ∷ rs) h =
-    let one = keep-named P ns last rs (h .1) in
-    let two = keep-named P ns (some (r .pattern)) rs (h .1) in
-    by-bool (again last (r .pattern)) (λ p. rw p one) (λ p. by-bool (sound ns (r .pattern)) (λ s. rw (p, s) (h .0, two)) (λ s. rw (p, s) two))
-
-moved-named : (P : List ℕ → Type 0) (ns cs : List ℕ) (rs : List RowOf) → Named P rs → Named P (map (moved ns cs) rs)
-unfolding Named
-moved-named P ns cs [] h = tt
-moved-named P ns cs (r ∷ rs) h = (h .0, moved-named P ns cs rs (h .1))
 
 pub plain-normal : (m : Matrix) → Plain m → Plain (normalize m)
 unfolding normalize

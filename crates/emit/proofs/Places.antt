@@ -21,7 +21,7 @@ use Rattle.rules.proofs.Answers.{oneHot-wide}
 use Rattle.rules.proofs.Entries.{in-use-length}
 use Rattle.rules.proofs.Lowers.{added-is, added-length, nets-are}
 use Rattle.rules.proofs.Tables.{Fine}
-use Rattle.rules.specs.Answers.{added, checkAnswer, emission, emissionTable, oneHotAfter, oneHotAnswer, prefixAnswer}
+use Rattle.rules.specs.Answers.{added, emission, emissionTable, oneHotAfter, oneHotAnswer, prefixAnswer}
 use Rattle.rules.specs.Bounds.{cell-max, net-max, node-run, nodes-max, width-max}
 use Rattle.rules.specs.Closed.{emits, muxes, netsOf}
 use Rattle.rules.specs.Emit.{Gives, Mux, appended, badTable, emitted, inUse, oneHot, room}
@@ -31,11 +31,8 @@ use Rattle.rules.specs.Refusals.{allLow, noRoom, oneHotTable, treeIn}
 use Rattle.rules.specs.Refuse.{FORM, NET, ROOM, WIDTH, done, refusal, refused}
 use Rattle.rules.specs.Store.{isNone, treeAt, used}
 use Rattle.rules.specs.Tree.{Tree, branches, fine, leaf, node, size}
-use Rattle.tree.proofs.Handed.{Handed, checked, handed-ends, tree-at-size, tree-handed, unchecked}
-use Rattle.tree.specs.Checked.{checkRead}
+use Rattle.tree.proofs.Handed.{Handed, handed-ends, tree-at-size, tree-handed}
 use Rattle.tree.specs.Form.{Ends}
-use Rattle.tree.specs.declared.Checked.the-variants.{Refused, Tree as Tree-is}
-use Rattle.tree.specs.declared.Checked.{Checked}
 
 -- ---- codes in a range
 
@@ -202,12 +199,6 @@ module _ (store : List ℕ) (root : ℕ) (outs : List ℕ) (count : ℕ) (table 
   hot-can t b h = record { there = t; wide = oneHot-wide outs; narrow = h; formed = b }
 
 -- ---- what the check of a tree says
-
-pub tree-seen : (store : List ℕ) (root n : ℕ) (r : Checked) → checkRead r ≡ checkAnswer store root → r ≡ Tree-is n → treeAt store root ≡ some (treeIn store root)
-tree-seen store root n r e q = checked store root n (sym e ∙ ap checkRead q)
-
-pub tree-unseen : (store : List ℕ) (root n : ℕ) (r : Checked) → checkRead r ≡ checkAnswer store root → r ≡ Refused n → isNone (treeAt store root) ≡ true
-tree-unseen store root n r e q = ap isNone (unchecked store root n (sym e ∙ ap checkRead q))
 
 pub tree-parts : (store : List ℕ) (root : ℕ) → treeAt store root ≡ some (treeIn store root) → Handed store root (treeIn store root)
 tree-parts store root e = tree-handed store root (treeIn store root) e

@@ -1,6 +1,6 @@
 -- Entries appended to a table one after the other. Assumes nothing.
 use Prim.Native.Nat.{ℕ, zero, suc, _+_, _*_, _≤_, _<_}
-use lib.ListN.{drop, getD, length, length-append, length-drop, replicate, set, take, take-append-drop}
+use lib.ListN.{drop, getD, length, length-append, replicate, set, take, take-append-drop}
 use lib.Seq.{drop-at, drop-drop, length-take-le, sets-eq, take-at}
 use mathlib.Core.List.{List, [], _∷_, _++_, append-assoc}
 use mathlib.Core.Path.{_≡_, refl, sym, ap, ap₂, _∙_}
@@ -45,12 +45,6 @@ module _ (k : ℕ) (A : List Mux) (xs : List ℕ) (h : mux-run * (k + length A) 
   front-long =
       let a = length-take-le (mux-run * k) xs (omega arith) in
       omega (arith, a, length-append (take (mux-run * k) xs) (flat A), flat-length A)
-
-  pub appended-long : length (appended k A xs) ≡ length xs
-  appended-long =
-      let a = length-append front (drop (mux-run * (k + length A)) xs) in
-      let b = length-drop (mux-run * (k + length A)) xs in
-      ap length front-is ∙ omega (arith, a, b, front-long)
 
   -- what is appended after A stands after A
   pub appended-more : (j : ℕ) (B : List Mux) → j ≡ k + length A → appended j B (appended k A xs) ≡ appended k (A ++ B) xs

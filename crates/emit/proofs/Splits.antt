@@ -1,39 +1,30 @@
 -- What a branch sends, from what its arms do. Assumes nothing.
-use Prim.Native.Nat.{ℕ, _+_, _*_, _-_, _≤_, _<_}
-use borrow.Author.Tests.{leb-false}
+use Prim.Native.Nat.{ℕ, _+_, _*_, _≤_, _<_}
 use lib.ListN.{length, length-append, take}
-use mathlib.Core.Bool.{true, not, _&&_}
+use mathlib.Core.Bool.{true}
 use mathlib.Core.List.{List, _++_, append-assoc}
-use mathlib.Core.Path.{_≡_, refl, sym, ap, ap₂, subst, _∙_}
+use mathlib.Core.Path.{_≡_, refl, sym, ap, ap₂, _∙_}
 use native.Mathlib.Omega.{arith}
 use Rattle.emit.proofs.Puts.{appended-more, appended-none}
 use Rattle.emit.specs.Sends.{Joined, Sends}
 use Rattle.emit.specs.declared.inner.Sent.{Sent}
-use Rattle.lists.specs.Bools.{and-left, and-right, not-is}
 use Rattle.lists.specs.Vec.{take-vec, vec}
 use Rattle.rules.proofs.Added.{emits-length, nets-length}
 use Rattle.rules.proofs.Answers.{fine-of}
 use Rattle.rules.proofs.Stores.{fine-one, fine-zero}
 use Rattle.rules.proofs.Tables.{Fine}
-use Rattle.rules.specs.Bounds.{cell-max, mux-run, node-run, rules-max, width-max}
+use Rattle.rules.specs.Bounds.{mux-run, rules-max, width-max}
 use Rattle.rules.specs.Closed.{Wide, branch, drives, emits, muxes, netsOf}
 use Rattle.rules.specs.Emit.{Gives, Mux, appended}
-use Rattle.rules.specs.Nets.{cell, first-mux, isCell, isName, number, over}
-use Rattle.rules.specs.Tree.{Tests, Tree, fine, leaf, node, size, untested}
-use Rattle.rules.specs.declared.Cell.{Cell}
-use Rattle.tree.proofs.Tails.{leaf-few, node-end, test-back}
+use Rattle.rules.specs.Nets.{first-mux}
+use Rattle.rules.specs.Tree.{Tests, Tree, fine, leaf, node}
+use Rattle.tree.proofs.Splits.{test-low}
+use Rattle.tree.proofs.Tails.{leaf-few}
 use Rattle.tree.specs.Form.{Ends, RootOf}
-use Rattle.tree.specs.declared.inner.Root.the-variants.{Branch, Leaf}
+use Rattle.tree.specs.declared.inner.Root.the-variants.{Leaf}
 use Rattle.tree.specs.declared.inner.Root.{Root}
 
 -- ---- the tests of a well formed tree are nets up to 9,999
-
-name-low : (n : ℕ) → isName n ≡ true → n < first-mux
-name-low n e = leb-false first-mux n (not-is (over n) (and-right (isCell n) (not (over n)) e))
-
-test-low : (t : ℕ) (z o : Tree) → fine (node t z o) ≡ true → t < first-mux
-unfolding fine
-test-low t z o e = name-low t (and-left (isName t) (untested t z && (untested t o && (fine z && fine o))) e)
 
 pub tests-low : (t : Tree) → fine t ≡ true → Tests (λ (n : ℕ). n < first-mux) t
 unfolding Tests
@@ -42,39 +33,6 @@ tests-low (node t z o) e = (test-low t z o e, tests-low z (fine-zero t z o e), t
 
 pub tree-fine : (g : Gives) (w : ℕ) → Wide g w → (t : Tree) → fine t ≡ true → Fine g w t
 tree-fine g w h t e = fine-of g w h t (tests-low t e)
-
--- ---- a tree at whose root a branch is read
-
-pub record Split (t : Tree) (xs : List ℕ) (u one zer : ℕ) : Type 0 where
-  pub z : Tree
-  pub o : Tree
-  pub is : t ≡ node (cell u) z o
-  pub one-ends : Ends o (take one xs)
-  pub zero-ends : Ends z (take zer xs)
-  pub one-in : one < length xs
-  pub zero-in : zer < length xs
-  pub low : u ≤ cell-max
-
-pub split : (t : Tree) (xs : List ℕ) (r : Root) (u : Cell) (one zer : ℕ) → Ends t xs → RootOf t xs r → r ≡ Branch u one zer → Split t xs (u .0) one zer
-unfolding RootOf
-split (leaf rs) xs r u one zer h e q = let w : _≡_ {A = ℕ} 0 1 = cc in absurd (omega arith)
-split (node t z o) xs r u one zer h e q =
-    let n = node-end t z o xs h in
-    let a : record { 0 = number t } ≡ u = cc in
-    let b : length xs - node-run ≡ one = cc in
-    let c : length xs - node-run - node-run * size o ≡ zer = cc in
-    let d : number t ≡ u .0 = ap (λ (x : Cell). x .0) a in
-    let l = test-low t z o (h .good) in
-    record {
-      z = z;
-      o = o;
-      is = ap (λ (k : ℕ). node k z o) (sym (test-back t z o xs h) ∙ ap cell d);
-      one-ends = subst (λ (k : ℕ). Ends o (take k xs)) b (n .one);
-      zero-ends = subst (λ (k : ℕ). Ends z (take k xs)) c (n .zero-arm);
-      one-in = omega (arith, n .room);
-      zero-in = omega (arith, n .room);
-      low = omega arith;
-    }
 
 -- ---- a leaf
 

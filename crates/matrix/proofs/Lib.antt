@@ -6,7 +6,6 @@ pub mod Calls
 pub mod Checks
 pub mod MergeCount
 pub mod MergeRows
-pub mod MergeSized
 pub mod NormalFlags
 pub mod NormalMade
 pub mod NormalRows

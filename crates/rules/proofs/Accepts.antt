@@ -57,7 +57,7 @@ fine-row r f n l =
     let b : ascends (r .rules) ≡ true = ap ascends (sym (names-cells (r .rules) n)) ∙ a in
     and-both (leb (length (r .rules)) rules-max) (all isName (r .rules) && ascends (r .rules)) (le-leb (length (r .rules)) rules-max l) (and-both (all isName (r .rules)) (ascends (r .rules)) n b)
 
-fine-rows : (w : ℕ) (rs : List Row) → all formedRow rs ≡ true → all (λ (r : Row). all isName (r .rules)) rs ≡ true → SizedRows w rs → Named (λ (l : List ℕ). fineLeaf l ≡ true) rs
+pub fine-rows : (w : ℕ) (rs : List Row) → all formedRow rs ≡ true → all (λ (r : Row). all isName (r .rules)) rs ≡ true → SizedRows w rs → Named (λ (l : List ℕ). fineLeaf l ≡ true) rs
 unfolding Named SizedRows
 fine-rows w [] f n s = tt
 fine-rows w (r ∷ rs) f n s = (

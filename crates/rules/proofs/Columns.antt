@@ -75,7 +75,7 @@ swap-from t k (x ∷ ns) n h i =
     (λ q. (or-right (eqb x n) (mem n ns) (one q .0), one q .1)))
 
 -- the lowest of the fewest is a column
-best-in : (rows : List Row) (ns : List ℕ) (i b n : ℕ) → b < n → i + length ns ≤ n → best rows ns i b < n
+pub best-in : (rows : List Row) (ns : List ℕ) (i b n : ℕ) → b < n → i + length ns ≤ n → best rows ns i b < n
 unfolding best
 best-in rows [] i b n h l = h
 best-in rows (x ∷ ns) i b n h l =

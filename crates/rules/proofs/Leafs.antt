@@ -20,7 +20,7 @@ unfoldable pub Named : (List ℕ → Type 0) → List Row → Type 0
 Named P [] = Unit {0}
 Named P (r ∷ rs) = P (r .rules) × Named P rs
 
-keep-named : (P : List ℕ → Type 0) (ns : List ℕ) (last : Option (List ℕ)) (rs : List Row) → Named P rs → Named P (keep ns last rs)
+pub keep-named : (P : List ℕ → Type 0) (ns : List ℕ) (last : Option (List ℕ)) (rs : List Row) → Named P rs → Named P (keep ns last rs)
 unfolding keep Named
 keep-named P ns last [] h = tt
 keep-named P ns last (r ∷ rs) h =
@@ -28,12 +28,12 @@ keep-named P ns last (r ∷ rs) h =
     let two = keep-named P ns (some (r .pattern)) rs (h .1) in
     by-bool (again last (r .pattern)) (λ p. rw p one) (λ p. by-bool (sound ns (r .pattern)) (λ s. rw (p, s) (h .0, two)) (λ s. rw (p, s) two))
 
-moved-named : (P : List ℕ → Type 0) (ns cs : List ℕ) (rs : List Row) → Named P rs → Named P (map (moved ns cs) rs)
+pub moved-named : (P : List ℕ → Type 0) (ns cs : List ℕ) (rs : List Row) → Named P rs → Named P (map (moved ns cs) rs)
 unfolding Named
 moved-named P ns cs [] h = tt
 moved-named P ns cs (r ∷ rs) h = (h .0, moved-named P ns cs rs (h .1))
 
-widened-named : (P : List ℕ → Type 0) (rs : List Row) → Named P rs → Named P (map widened rs)
+pub widened-named : (P : List ℕ → Type 0) (rs : List Row) → Named P rs → Named P (map widened rs)
 unfolding Named
 widened-named P [] h = tt
 widened-named P (r ∷ rs) h = (h .0, widened-named P rs (h .1))

@@ -1,5 +1,5 @@
 -- The loose readers of nets: what a net's text gives, and what any text gives at most. Assumes nothing.
-use Prim.Native.Nat.{ℕ, zero, suc, _+_, _-_, _*_, _/_, _%_, _≤_, _<_}
+use Prim.Native.Nat.{ℕ, zero, suc, _+_, _*_, _/_, _%_, _≤_, _<_}
 use borrow.Author.Tests.{eq-eqb, le-ltb, lt-ltb, ltb-false, ne-eqb}
 use lib.Dec.{eqb, ltb}
 use lib.ListN.{getD, length}
@@ -25,13 +25,6 @@ figure-digit n =
     let a : ltb (digit n) (byte "0") ≡ false = le-ltb (digit n) (byte "0") (omega arith) in
     let b : ltb (byte "9") (digit n) ≡ false = le-ltb (byte "9") (digit n) (omega arith) in
     rw (a, b) (omega arith)
-
-pub figure-few : (b : ℕ) → figureOf b ≤ 10
-unfolding figureOf
-figure-few b =
-    by-bool (ltb b (byte "0"))
-    (λ p. rw p (omega arith))
-    (λ p. rw p (by-bool (ltb (byte "9") b) (λ q. rw q (omega arith)) (λ q. let k = ltb-false (byte "9") b q in rw q (omega arith))))
 
 -- a text that starts with no figure
 abbrev pub NoFigure : List ℕ → Type 0

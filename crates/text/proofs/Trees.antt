@@ -1,39 +1,35 @@
 -- A tree that a store ends in: what its lines are, from what its root is, and how long they are at most. Assumes nothing.
-use Prim.Native.Nat.{ℕ, suc, _+_, _-_, _*_, _≤_, _<_}
-use borrow.Author.Tests.{le-ltb, leb-false, lt-ltb}
+use Prim.Native.Nat.{ℕ, suc, _+_, _*_, _≤_, _<_}
+use borrow.Author.Tests.{le-ltb, lt-ltb}
 use lib.Dec.{leb}
 use lib.ListN.{drop, length, length-append, take}
 use lib.Seq.{length-take-le}
-use mathlib.Core.Bool.{true, not, _&&_}
+use mathlib.Core.Bool.{true, _&&_}
 use mathlib.Core.List.{List, [], _∷_, _++_, append-assoc}
 use mathlib.Core.Option.{some}
 use mathlib.Core.Path.{_≡_, sym, ap, _∙_, subst}
 use native.Mathlib.Numerals.{add-one}
 use native.Mathlib.Omega.{arith}
-use Rattle.lists.specs.Bools.{and-left, and-right, not-is}
+use Rattle.lists.specs.Bools.{and-left, and-right}
 use Rattle.lists.specs.Lists.{all}
 use Rattle.rules.proofs.Stores.{fine-fit}
-use Rattle.rules.specs.Answers.{checkAnswer, printTreeAfter, printTreeAnswer}
+use Rattle.rules.specs.Answers.{printTreeAfter, printTreeAnswer}
 use Rattle.rules.specs.Bounds.{node-run, nodes-max, rules-max}
 use Rattle.rules.specs.Given.{ascends}
-use Rattle.rules.specs.Nets.{cell, first-mux, isCell, isName, number, over}
+use Rattle.rules.specs.Nets.{isName}
 use Rattle.rules.specs.Print.{arm, armHead, indent, printedTree}
 use Rattle.rules.specs.Refusals.{allLow, treeIn}
 use Rattle.rules.specs.Refuse.{FORM, ROOM, done, refused}
 use Rattle.rules.specs.Store.{isNone, treeAt}
-use Rattle.rules.specs.Tree.{Fit, Tree, fine, leaf, node, size, untested}
-use Rattle.rules.specs.declared.Cell.{Cell}
+use Rattle.rules.specs.Tree.{Fit, Tree, fine, leaf, node, size}
 use Rattle.text.proofs.Lays.{arm-leaf, branch-long, end-few, head-few, indent-long, laid-as, laid-then}
 use Rattle.text.proofs.Prints.{names-low, put-front}
 use Rattle.text.specs.Longs.{line-max, tree-max}
 use Rattle.text.specs.Trees.{Laid, LeafFits, branchLine, lastRules, ruleEnd}
-use Rattle.tree.proofs.Handed.{checked, handed-ends, tree-handed, unchecked}
-use Rattle.tree.proofs.Tails.{ends-long, ends-run, leaf-few, leaf-rules, node-end, test-back}
-use Rattle.tree.specs.Checked.{checkRead}
+use Rattle.tree.proofs.Handed.{handed-ends, tree-handed}
+use Rattle.tree.proofs.Tails.{ends-long, ends-run, leaf-few, leaf-rules}
 use Rattle.tree.specs.Form.{Ends, HasTree, RootOf}
-use Rattle.tree.specs.declared.Checked.the-variants.{Refused, Tree as Tree-is}
-use Rattle.tree.specs.declared.Checked.{Checked}
-use Rattle.tree.specs.declared.inner.Root.the-variants.{Branch, Leaf}
+use Rattle.tree.specs.declared.inner.Root.the-variants.{Leaf}
 use Rattle.tree.specs.declared.inner.Root.{Root}
 
 -- ---- a leaf is read
@@ -51,46 +47,6 @@ leaf-read (leaf rs) xs r n h e q =
     let named : all isName rs ≡ true = and-left (all isName rs) (ascends rs) (and-right (leb (length rs) rules-max) (all isName rs && ascends rs) (h .good)) in
     record { is = ap leaf (sym i); fits = record { long = ends-run (leaf rs) xs h; few = omega (arith, few, a); low = ap allLow i ∙ names-low rs named } }
 leaf-read (node t z o) xs r n h e q = let w : _≡_ {A = ℕ} 0 1 = cc in absurd (omega arith)
-
--- ---- a branch is read
-
-test-low : (t : ℕ) (z o : Tree) → fine (node t z o) ≡ true → t < first-mux
-unfolding fine
-test-low t z o e =
-    let name = and-left (isName t) (untested t z && (untested t o && (fine z && fine o))) e in
-    leb-false first-mux t (not-is (over t) (and-right (isCell t) (not (over t)) name))
-
-pub record Split (t : Tree) (xs : List ℕ) (u one zer : ℕ) : Type 0 where
-  pub z : Tree
-  pub o : Tree
-  pub is : t ≡ node (cell u) z o
-  pub one-ends : Ends o (take one xs)
-  pub zero-ends : Ends z (take zer xs)
-  pub one-in : one < length xs
-  pub zero-in : zer < length xs
-  pub low : cell u < first-mux
-
-pub split : (t : Tree) (xs : List ℕ) (r : Root) (u : Cell) (one zer : ℕ) → Ends t xs → RootOf t xs r → r ≡ Branch u one zer → Split t xs (u .0) one zer
-unfolding RootOf
-split (leaf rs) xs r u one zer h e q = let w : _≡_ {A = ℕ} 0 1 = cc in absurd (omega arith)
-split (node t z o) xs r u one zer h e q =
-    let n = node-end t z o xs h in
-    let a : record { 0 = number t } ≡ u = cc in
-    let b : length xs - node-run ≡ one = cc in
-    let c : length xs - node-run - node-run * size o ≡ zer = cc in
-    let d : number t ≡ u .0 = ap (λ (x : Cell). x .0) a in
-    let l = test-low t z o (h .good) in
-    let k = test-back t z o xs h in
-    record {
-      z = z;
-      o = o;
-      is = ap (λ (k : ℕ). node k z o) (sym k ∙ ap cell d);
-      one-ends = subst (λ (k : ℕ). Ends o (take k xs)) b (n .one);
-      zero-ends = subst (λ (k : ℕ). Ends z (take k xs)) c (n .zero-arm);
-      one-in = omega (arith, n .room);
-      zero-in = omega (arith, n .room);
-      low = omega (arith, d, l, k);
-    }
 
 -- ---- the lines of a branch
 
@@ -163,12 +119,6 @@ unfolding printedTree
 laid-arms u w z o is l p q = laid-as (sym (ap printedTree is)) (laid-then l p q)
 
 -- ---- the public call
-
-pub tree-seen : (store : List ℕ) (root n : ℕ) (r : Checked) → checkRead r ≡ checkAnswer store root → r ≡ Tree-is n → treeAt store root ≡ some (treeIn store root)
-tree-seen store root n r e q = checked store root n (sym e ∙ ap checkRead q)
-
-pub tree-unseen : (store : List ℕ) (root n : ℕ) (r : Checked) → checkRead r ≡ checkAnswer store root → r ≡ Refused n → isNone (treeAt store root) ≡ true
-tree-unseen store root n r e q = ap isNone (unchecked store root n (sym e ∙ ap checkRead q))
 
 abbrev pub CanWalk : List ℕ → ℕ → Type 0
 CanWalk store root = HasTree (take (node-run * (root + 1)) store) × (length (take (node-run * (root + 1)) store) ≤ node-run * nodes-max)

@@ -6,7 +6,7 @@ use mathlib.Core.Path.{_≡_, refl, sym, ap, _∙_}
 use native.Mathlib.Omega.{arith}
 use lib.ListN.{drop, length, take}
 use lib.Seq.{drop-at, length-take-le, take-at}
-use Rattle.rules.proofs.Stores.{Cells, encode-length, fine-cells, fine-fit}
+use Rattle.rules.proofs.Stores.{Cells, encode-length}
 use Rattle.rules.proofs.Trees.{reduce-fit, reduce-peak, size-pos}
 use Rattle.rules.specs.Bounds.{node-run, rules-max}
 use Rattle.rules.specs.Refuse.{NODES}
@@ -111,9 +111,3 @@ module _ (t : ℕ) (z o : Tree) where
       → length ys ≡ length xs → length ws ≡ length xs - node-run * k → length us ≡ length ws
       → Arms (reduce z) (reduce o) k l (take (node-run * k) ys ++ (us ++ drop (length ys - node-run * k) (drop (node-run * k) ys)))
   arms xs ys ws us k l fz fo cz co a b m n p = arms-of xs ys ws us k l (reduce-fit z fz) (reduce-fit o fo) (reduce-cells z cz) (reduce-cells o co) a b m n p
-
-  pub arms-fine : (xs ys ws us : List ℕ) (k l : ℕ) → fine (reduce z) ≡ true → fine (reduce o) ≡ true → Took z xs ys k → Took o ws us l
-      → length ys ≡ length xs → length ws ≡ length xs - node-run * k → length us ≡ length ws
-      → Arms (reduce z) (reduce o) k l (take (node-run * k) ys ++ (us ++ drop (length ys - node-run * k) (drop (node-run * k) ys)))
-  arms-fine xs ys ws us k l gz go a b m n p =
-      arms-of xs ys ws us k l (fine-fit (reduce z) gz) (fine-fit (reduce o) go) (fine-cells (reduce z) gz) (fine-cells (reduce o) go) a b m n p

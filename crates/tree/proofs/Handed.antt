@@ -17,10 +17,13 @@ use Rattle.rules.specs.Answers.{checkAnswer}
 use Rattle.rules.specs.Bounds.{node-run}
 use Rattle.rules.specs.Refusals.{treeIn}
 use Rattle.rules.specs.Refuse.{FORM, done, refused}
-use Rattle.rules.specs.Store.{encode, oneTree, readAll, treeAt, used}
+use Rattle.rules.specs.Store.{encode, isNone, oneTree, readAll, treeAt, used}
 use Rattle.rules.specs.Tree.{Tree, fine, size}
 use Rattle.tree.proofs.Forms.{tree-size}
+use Rattle.tree.specs.Checked.{checkRead}
 use Rattle.tree.specs.Form.{Ends, IsTree}
+use Rattle.tree.specs.declared.Checked.the-variants.{Refused, Tree as Tree-is}
+use Rattle.tree.specs.declared.Checked.{Checked}
 
 -- ---- there is one
 
@@ -114,3 +117,11 @@ unchecked xs root n e = go (treeAt xs root) refl
     go : (v : Option Tree) → treeAt xs root ≡ v → treeAt xs root ≡ none
     go none q = q
     go (some t) q = let p = check-some xs root t q in let z : _≡_ {A = ℕ} 0 1 = cc in absurd (omega arith)
+
+-- ---- what the answer of the check says
+
+pub tree-seen : (store : List ℕ) (root n : ℕ) (r : Checked) → checkRead r ≡ checkAnswer store root → r ≡ Tree-is n → treeAt store root ≡ some (treeIn store root)
+tree-seen store root n r e q = checked store root n (sym e ∙ ap checkRead q)
+
+pub tree-unseen : (store : List ℕ) (root n : ℕ) (r : Checked) → checkRead r ≡ checkAnswer store root → r ≡ Refused n → isNone (treeAt store root) ≡ true
+tree-unseen store root n r e q = ap isNone (unchecked store root n (sym e ∙ ap checkRead q))

@@ -7,5 +7,6 @@ pub mod Laws
 pub mod Named
 pub mod Ones
 pub mod Raws
+pub mod Splits
 pub mod Tails
 pub mod Tested

@@ -17,9 +17,6 @@ use Rattle.tree.specs.declared.inner.Root.the-variants.{Branch, Leaf}
 
 -- ---- of any tree
 
-pub ends-fit : (t : Tree) (xs : List ℕ) → Ends t xs → Fit t
-ends-fit t xs h = fine-fit t (h .good)
-
 pub ends-long : (t : Tree) (xs : List ℕ) → Ends t xs → node-run * size t ≤ length xs
 ends-long t xs h = omega (arith, ap length (h .is), length-append (h .front) (encode t), encode-length t (fine-fit t (h .good)))
 

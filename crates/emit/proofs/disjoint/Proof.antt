@@ -5,7 +5,7 @@ use lib.Seq.{length-take-le}
 use mathlib.Core.Option.{some}
 use mathlib.Core.Path.{_≡_, ap, sym, _∙_}
 use native.Mathlib.Omega.{arith}
-use Rattle.emit.proofs.Places.{tree-parts, tree-seen, tree-unseen}
+use Rattle.emit.proofs.Places.{tree-parts}
 use Rattle.emit.proofs.Updates.{Formed, Named, Sized, disjoint-can, disjoint-place, form-default, form-table, form-tree, form-updates, is-formed, is-named, net-default, net-updates, overlaps, width-default, width-updates}
 use Rattle.emit.proofs.all_between.Reads as all-between-reads
 use Rattle.emit.proofs.disjoint.Lts as lts
@@ -25,6 +25,7 @@ use Rattle.rules.specs.Emit.{badTable}
 use Rattle.rules.specs.Refusals.{treeIn}
 use Rattle.rules.specs.Store.{treeAt}
 use Rattle.tree.proofs.check.Reads as check-reads
+use Rattle.tree.proofs.Handed.{tree-seen, tree-unseen}
 
 -- what is asked and learnt of each callee
 abbrev calls : lts.Claims

@@ -2,13 +2,14 @@ use borrow.Author.Needs.{needs}
 use borrow.Author.Tests.{not-false, not-true}
 use mathlib.Core.Path.{ap, sym, _∙_}
 use native.Mathlib.Omega.{arith}
-use Rattle.emit.proofs.Places.{found-is, hot-can, hot-form, hot-net, hot-place, hot-width, names-in, nets-in, tree-seen, tree-unseen}
+use Rattle.emit.proofs.Places.{found-is, hot-can, hot-form, hot-net, hot-place, hot-width, names-in, nets-in}
 use Rattle.emit.proofs.one_hot.Statement.{statement}
 use Rattle.emit.proofs.one_hot.Tie as tie
 use Rattle.emit.specs.Sends.{emittedFrom}
 use Rattle.evaluate.proofs.Turns.{is-bad, not-bad}
 use Rattle.rules.specs.Emit.{badTable}
 use Rattle.rules.specs.Store.{treeAt}
+use Rattle.tree.proofs.Handed.{tree-seen, tree-unseen}
 
 -- src/lib.rt:33:34
 check-requires : tie.Need-check-requires

@@ -4,12 +4,13 @@ use borrow.Author.Tests.{not-false, not-true}
 use lib.Seq.{length-take-le}
 use mathlib.Core.Path.{sym, _∙_}
 use native.Mathlib.Omega.{arith}
-use Rattle.emit.proofs.Places.{found-is, names-in, nets-in, prefix-done, prefix-form, prefix-net, tree-parts, tree-seen, tree-unseen}
+use Rattle.emit.proofs.Places.{found-is, names-in, nets-in, prefix-done, prefix-form, prefix-net, tree-parts}
 use Rattle.emit.proofs.prefix.Statement.{statement}
 use Rattle.emit.proofs.prefix.Tie as tie
 use Rattle.rules.specs.Bounds.{node-run}
 use Rattle.rules.specs.Refusals.{treeIn}
 use Rattle.rules.specs.Store.{treeAt}
+use Rattle.tree.proofs.Handed.{tree-seen, tree-unseen}
 
 -- src/lib.rt:61:34
 check-requires : tie.Need-check-requires

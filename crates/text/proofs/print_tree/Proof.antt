@@ -9,7 +9,7 @@ use native.Mathlib.Omega.{arith}
 use Rattle.rules.specs.Bounds.{node-run}
 use Rattle.rules.specs.Refusals.{treeIn}
 use Rattle.rules.specs.Store.{treeAt}
-use Rattle.text.proofs.Trees.{CanWalk, can-walk, root-in, tree-done, tree-form, tree-full, tree-in, tree-seen, tree-unseen}
+use Rattle.text.proofs.Trees.{CanWalk, can-walk, root-in, tree-done, tree-form, tree-full, tree-in}
 use Rattle.tree.proofs.Handed.{handed-ends}
 use Rattle.tree.specs.Form.{Ends}
 use Rattle.text.proofs.print_tree.Statement.{statement}
@@ -18,6 +18,7 @@ use Rattle.text.proofs.print_tree.Reads as reads
 use Rattle.text.proofs.print_tree.Lts as lts
 use Rattle.text.proofs.inner.trees.whole.Reads as whole-reads
 use Rattle.tree.proofs.check.Reads as check-reads
+use Rattle.tree.proofs.Handed.{tree-seen, tree-unseen}
 
 -- what is asked and learnt of each callee
 abbrev calls : lts.Claims

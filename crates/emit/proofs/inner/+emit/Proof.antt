@@ -6,7 +6,7 @@ use lib.ListN.{length, take}
 use lib.Seq.{length-take-le}
 use mathlib.Core.Path.{_≡_, ap, subst, sym, _∙_}
 use native.Mathlib.Omega.{arith}
-use Rattle.emit.proofs.Splits.{Split, leaf-long, muxes-node, sends-leaf, sends-node, split, tree-fine}
+use Rattle.emit.proofs.Splits.{leaf-long, muxes-node, sends-leaf, sends-node, tree-fine}
 use Rattle.emit.proofs.inner.+emit.Lts-emit as emit-lts
 use Rattle.emit.proofs.inner.+emit.Tie.{close}
 use Rattle.emit.proofs.inner.+emit.{statement}
@@ -19,6 +19,7 @@ use Rattle.rules.proofs.Tables.{Fine}
 use Rattle.rules.specs.Closed.{muxes}
 use Rattle.rules.specs.Nets.{cell}
 use Rattle.rules.specs.Tree.{Tree, node}
+use Rattle.tree.proofs.Splits.{Split, split}
 use Rattle.tree.proofs.Tails.{ends-run}
 use Rattle.tree.proofs.inner.root_of.Reads as root-of-reads
 use Rattle.tree.specs.Form.{Ends}
@@ -102,7 +103,7 @@ emit-join-requires t c κs =
     let n = needed t (c .before .before .before .before .before .before .before .before .before .before .before .before .before) in
     let u = c .before .before .before .before .before .before .before .before .before .before .emit .ensures (h .o) (h .one-ends) .used-is in
     let v = c .before .before .before .before .before .emit2 .ensures (h .z) (h .zero-ends) .used-is in
-    (p .narrow, omega (arith, n, u, v, p .fits, c .before .before .before .before .before .before .before .before .before .before .emit .kept .1 .1 .1 .1 .1 .1 .0, c .before .before .before .before .before .emit2 .kept .1 .1 .1 .1 .1 .1 .0), omega (arith, n, u, v, p .few), h .low)
+    (p .narrow, omega (arith, n, u, v, p .fits, c .before .before .before .before .before .before .before .before .before .before .emit .kept .1 .1 .1 .1 .1 .1 .0, c .before .before .before .before .before .emit2 .kept .1 .1 .1 .1 .1 .1 .0), omega (arith, n, u, v, p .few), omega (arith, h .low))
 
 -- src/inner.rt:216:1
 emit-returns : (t : ℕ) → emit-lts.Need-returns (calls t) (emit-at t) emit.Post

@@ -7,7 +7,7 @@ use Rattle.rules.specs.Nets.{cell}
 use Rattle.rules.specs.Print.{printedTree}
 use Rattle.rules.specs.Tree.{Tree}
 use Rattle.text.proofs.Lays.{laid-as}
-use Rattle.text.proofs.Trees.{Split, first-fits, laid-arms, leaf-read, second-fits, split}
+use Rattle.text.proofs.Trees.{first-fits, laid-arms, leaf-read, second-fits}
 use Rattle.tree.specs.Form.{Ends}
 use Rattle.text.proofs.inner.trees.whole.Statement.{statement}
 use Rattle.text.proofs.inner.trees.whole.Tie as tie
@@ -16,6 +16,7 @@ use Rattle.text.proofs.inner.trees.whole.Lts as lts
 use Rattle.text.proofs.inner.trees.alone.Reads as alone-reads
 use Rattle.text.proofs.inner.trees.arm.Reads as arm-reads
 use Rattle.tree.proofs.inner.root_of.Reads as root-of-reads
+use Rattle.tree.proofs.Splits.{Split, split}
 
 -- what is asked and learnt of each callee
 abbrev calls : lts.Claims
