@@ -40,9 +40,6 @@ pub struct Asked {
     waits: u8,
 }
 
-// Numbers of an entry of the node store.
-const NODE_RUN: usize = 9;
-
 // Whether a word is a number, and the number; any over the last is the last.
 struct Number {
     fine: bool,
@@ -234,7 +231,7 @@ fn store(mut asked: Asked, w: &[u8]) -> Asked {
         return refuse(asked, b"-s wants a number of entries: write -s 1024");
     }
     let k = n.value as usize;
-    asked.numbers = NODE_RUN * k;
+    asked.numbers = tree::inner::NODE_RUN * k;
     asked
 }
 
@@ -405,7 +402,7 @@ fn whole(asked: Asked) -> Asked {
     asked
 }
 
-pub fn arguments(trits: &mut [u8]) -> Asked {
+pub(crate) fn arguments(trits: &mut [u8]) -> Asked {
     let mut asked = Asked {
         wrong: false,
         command: NONE,
@@ -414,7 +411,7 @@ pub fn arguments(trits: &mut [u8]) -> Asked {
         third: 0,
         at: 1,
         enable: 1,
-        numbers: NODE_RUN * rules::NODES_MAX,
+        numbers: tree::inner::NODE_RUN * rules::NODES_MAX,
         waits: NO,
     };
     let n = os::arg_count();

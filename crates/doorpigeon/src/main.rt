@@ -8,11 +8,11 @@ mod show;
 // Any longer text is refused, at a line that its first bytes have.
 const TEXT_MAX: usize = 8192;
 
-const STORE: usize = 9 * rules::NODES_MAX;
+const STORE: usize = tree::inner::NODE_RUN * rules::NODES_MAX;
 
-const TABLE: usize = 3 * rules::MUX_MAX;
+const TABLE: usize = evaluate::inner::MUX_RUN * rules::MUX_MAX;
 
-const TRITS: usize = 10000;
+const TRITS: usize = rules::CELL_MAX as usize + 1;
 
 // Whether a text could be opened, and what the reader made of it.
 struct Opened {

@@ -9,13 +9,13 @@ const TEXT_MAX: usize = 4773;
 // More than the text of the largest tree that a dispatch gives has.
 const TREE_TEXT_MAX: usize = 131072;
 
-pub fn error(message: &[u8]) {
+pub(crate) fn error(message: &[u8]) {
     io::write_all(ERROR, b"doorpigeon: ");
     io::write_all(ERROR, message);
     io::write_all(ERROR, b"\n");
 }
 
-pub fn help(fd: i32) {
+pub(crate) fn help(fd: i32) {
     io::write_all(
         fd,
         b"doorpigeon COMMAND [OPTIONS] [FILE]\n\nFILE is a printed matrix; standard input if it is missing or -.\n\n",
@@ -48,7 +48,7 @@ fn name(no: u8) {
     ;
 }
 
-pub fn refused(no: u8) {
+pub(crate) fn refused(no: u8) {
     io::write_all(OUT, b"refused ");
     io::print_decimal(OUT, no as u64);
     io::write_all(OUT, b" ");
@@ -56,13 +56,13 @@ pub fn refused(no: u8) {
     io::write_all(OUT, b"\n");
 }
 
-pub fn refused_line(line: usize) {
+pub(crate) fn refused_line(line: usize) {
     io::write_all(OUT, b"refused 11 LINE line ");
     io::print_decimal(OUT, line as u64);
     io::write_all(OUT, b"\n");
 }
 
-pub fn matrix(m: matrix::Matrix) {
+pub(crate) fn matrix(m: matrix::Matrix) {
     let mut out = [0u8; TEXT_MAX];
     match text::print(m, &mut out) {
         text::Printed::Done(n) => bytes(&out, n),
@@ -70,7 +70,7 @@ pub fn matrix(m: matrix::Matrix) {
     }
 }
 
-pub fn made(made: matrix::Made) {
+pub(crate) fn made(made: matrix::Made) {
     if made.no != 0 {
         refused(made.no);
         return;
@@ -103,7 +103,7 @@ fn net(code: u16) {
     }
 }
 
-pub fn nets(nets: &[u16]) {
+pub(crate) fn nets(nets: &[u16]) {
     let mut i = 0;
     while i < nets.len() {
         net(nets[i]);
@@ -129,7 +129,7 @@ fn entry(table: &[u16], k: usize) {
     if k >= rules::MUX_MAX {
         return;
     }
-    let p = 3 * k;
+    let p = evaluate::inner::MUX_RUN * k;
     if p + 2 >= table.len() {
         return;
     }
@@ -141,7 +141,7 @@ fn entry(table: &[u16], k: usize) {
     );
 }
 
-pub fn muxes(table: &[u16], used: usize) {
+pub(crate) fn muxes(table: &[u16], used: usize) {
     let mut k = 0;
     while k < used {
         entry(table, k);
@@ -154,7 +154,7 @@ fn head(output: u16) {
     io::write_all(OUT, b" = ");
 }
 
-pub fn pairs(outputs: &[u16], nets: &[u16]) {
+pub(crate) fn pairs(outputs: &[u16], nets: &[u16]) {
     let mut i = 0;
     while i < outputs.len() {
         if i < nets.len() {
@@ -173,7 +173,7 @@ fn value(net: u16, table: &[u16], used: usize, trits: &[u8]) {
     }
 }
 
-pub fn values(outputs: &[u16], nets: &[u16], table: &[u16], used: usize, trits: &[u8]) {
+pub(crate) fn values(outputs: &[u16], nets: &[u16], table: &[u16], used: usize, trits: &[u8]) {
     let mut i = 0;
     while i < outputs.len() {
         if i < nets.len() {
@@ -185,7 +185,7 @@ pub fn values(outputs: &[u16], nets: &[u16], table: &[u16], used: usize, trits: 
     }
 }
 
-pub fn tree(store: &[u16], root: rules::Place) {
+pub(crate) fn tree(store: &[u16], root: rules::Place) {
     let mut out = [0u8; TREE_TEXT_MAX];
     match text::print_tree(store, root, &mut out) {
         text::Printed::Done(n) => bytes(&out, n),

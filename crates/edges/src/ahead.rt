@@ -38,7 +38,7 @@ fn nine(name: &[u8], outputs: &[u8], enables: &[u8]) {
     );
 }
 
-pub fn lengths() {
+pub(crate) fn lengths() {
     one(b"prefix of setting 1: ", b"13 14", b"13 14");
     one(b"prefix of nothing: ", b"13 14", b"");
     one(b"prefix, no output first: ", b"13 14", b"23 13");
@@ -47,7 +47,7 @@ pub fn lengths() {
     one(b"prefix, in no leaf, twice: ", b"13 14 23", b"23*2 13 14");
 }
 
-pub fn leaves() {
+pub(crate) fn leaves() {
     nine(b"prefix of setting 9: ", b"13 14 15", b"13 14 15");
     nine(b"prefix, two in a leaf: ", b"13 14 15", b"15 13");
     nine(
@@ -58,7 +58,7 @@ pub fn leaves() {
     nine(b"prefix, leaf not among outputs: ", b"13", b"13 14");
 }
 
-pub fn codes() {
+pub(crate) fn codes() {
     one(b"prefix of 1: ", b"13 14", b"13 1");
     one(b"prefix of %10000: ", b"13 14", b"23 10003");
     one(b"prefix, output %10000: ", b"10003", b"");

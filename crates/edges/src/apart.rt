@@ -144,7 +144,7 @@ fn leaf(name: &[u8], default: &[u8]) {
     apart(name, b"1 10 0*7", 0, b"", &none, b"", default, b"65535*3");
 }
 
-pub fn updates() {
+pub(crate) fn updates() {
     one(b"disjoint, one update: ", b"13", b"4 5", b"0 1", b"65535*9");
     one(
         b"disjoint, two updates: ",
@@ -184,7 +184,7 @@ pub fn updates() {
     );
 }
 
-pub fn overlaps() {
+pub(crate) fn overlaps() {
     nine(b"overlap: ", b"13 15", b"4 5 6 7", b"0 1", b"65535*6");
     nine(b"overlap, no room: ", b"13 15", b"4 5 6 7", b"0 1", b"");
     nine(
@@ -211,7 +211,7 @@ pub fn overlaps() {
     );
 }
 
-pub fn widths() {
+pub(crate) fn widths() {
     let ones = [1usize; 1];
     wide(
         b"update of 1 bit: ",
@@ -245,7 +245,7 @@ pub fn widths() {
     leaf(b"default of no bits: ", b"");
 }
 
-pub fn nets() {
+pub(crate) fn nets() {
     one(b"bit %9999: ", b"13", b"4 10002", b"0 10002", b"65535*6");
     one(b"bit %10000: ", b"13", b"4 10003", b"0 1", b"65535*6");
     one(
@@ -268,7 +268,7 @@ pub fn nets() {
     one(b"bit over: ", b"13", b"4 5 18195", b"0 1", b"65535*6");
 }
 
-pub fn rooms() {
+pub(crate) fn rooms() {
     one(b"disjoint, full: ", b"13", b"4 5", b"0 1", b"65535*6");
     one(b"disjoint, one short: ", b"13", b"4 5", b"0 1", b"65535*5");
     one(b"disjoint, and a part: ", b"13", b"4 5", b"0 1", b"65535*7");
@@ -276,7 +276,7 @@ pub fn rooms() {
 }
 
 // A tree that is malformed is 12 before a constant target.
-pub fn trees() {
+pub(crate) fn trees() {
     let widths = [2usize; 1];
     apart(
         b"disjoint, bad tree: ",

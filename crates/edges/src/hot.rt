@@ -50,7 +50,7 @@ fn leaf(name: &[u8], outputs: &[u8], count: usize, table: &[u8]) {
     hot(name, b"1 10 0*7", 0, outputs, count, table);
 }
 
-pub fn settings() {
+pub(crate) fn settings() {
     one(b"one-hot of setting 1: ", b"13 14", 0, b"65535*9");
     hot(
         b"one-hot of setting 9: ",
@@ -70,7 +70,7 @@ pub fn settings() {
     );
 }
 
-pub fn widths() {
+pub(crate) fn widths() {
     leaf(b"64 outputs of a leaf: ", b"13*64", 0, b"65535*3");
     leaf(b"65 outputs of a leaf: ", b"13*65", 0, b"65535*3");
     one(b"64 outputs, 64 entries: ", b"23*64", 0, b"65535*192");
@@ -81,7 +81,7 @@ pub fn widths() {
     one(b"no outputs, no entry: ", b"", 0, b"");
 }
 
-pub fn nets() {
+pub(crate) fn nets() {
     one(b"output 1: ", b"13 1", 0, b"65535*6");
     one(b"output %9999: ", b"10002", 0, b"65535*3");
     one(b"output %10000: ", b"13 10003", 0, b"65535*6");
@@ -92,7 +92,7 @@ pub fn nets() {
     one(b"outputs repeated, any order: ", b"14 13 14", 0, b"65535*9");
 }
 
-pub fn rooms() {
+pub(crate) fn rooms() {
     one(b"table full: ", b"13 14", 0, b"65535*6");
     one(b"table one short: ", b"13 14", 0, b"65535*3");
     one(b"table and a part: ", b"13 14", 0, b"65535*8");
@@ -102,7 +102,7 @@ pub fn rooms() {
     one(b"one in use, no outputs: ", b"", 1, b"3 1 2");
 }
 
-pub fn long_tables() {
+pub(crate) fn long_tables() {
     one(b"8,192 entries: ", b"13 14", 8190, b"0*24570 65535*6");
     one(
         b"8,192 entries, one short: ",
@@ -122,7 +122,7 @@ pub fn long_tables() {
     one(b"8,193 in use: ", b"", 8193, b"0*24600");
 }
 
-pub fn tables() {
+pub(crate) fn tables() {
     one(b"more in use than there are: ", b"", 2, b"0*3");
     one(b"more in use than whole entries: ", b"", 2, b"0*5");
     one(b"select driven by itself: ", b"", 1, b"10003 1 0");
@@ -133,7 +133,7 @@ pub fn tables() {
 }
 
 // A tree that is malformed is 12 before a constant output, and before 65 of them.
-pub fn trees() {
+pub(crate) fn trees() {
     hot(b"one-hot, bad tree: ", b"0*9 9 0 1 0*6", 1, b"1", 0, b"");
     hot(b"one-hot, bad root: ", b"0*9", 1, b"1*65", 0, b"");
 }

@@ -1,7 +1,9 @@
-// Settings 1 to 9 of 01 on the code, and the edges of stores, tables, updates and prefixes, run and written out.
+// Settings 1 to 9 of 01 on the code, the edges of stores, tables, updates and prefixes, and trees handed in, run and written out.
 // The lines of `stdout` are 01's own words and numbers, or arithmetic on them; docs/EDGES.md says which.
 mod ahead;
 mod apart;
+mod chain;
+mod handed;
 mod hot;
 mod numbers;
 mod planted;
@@ -12,6 +14,9 @@ fn main() {
     one_hots();
     disjoints();
     prefixes();
+    handed_in();
+    texts();
+    chains();
 }
 
 fn stores() {
@@ -47,4 +52,23 @@ fn prefixes() {
     ahead::lengths();
     ahead::leaves();
     ahead::codes();
+}
+
+fn handed_in() {
+    handed::leaves();
+    handed::runs();
+    handed::roots();
+    handed::branches();
+    handed::paths();
+}
+
+fn texts() {
+    handed::rooms();
+    handed::bad_text();
+}
+
+fn chains() {
+    chain::deepest();
+    chain::spoiled();
+    chain::longer();
 }

@@ -80,7 +80,7 @@ fn setting(name: &[u8], matrix: &[u8], enable: u16, peak: usize, short: usize) {
     plant_in(r.matrix, enable, short);
 }
 
-pub fn settings() {
+pub(crate) fn settings() {
     setting(
         b"setting 1",
         b"[ %1 %0 ]:\n  00 => %10\n  10 => %10\n  XX => %11\n",
@@ -118,7 +118,7 @@ pub fn settings() {
     );
 }
 
-pub fn more_settings() {
+pub(crate) fn more_settings() {
     setting(
         b"setting 6",
         b"[ 0 %0 ]:\n  0X => %10\n  X0 => %11\n  XX => %12\n",
@@ -165,7 +165,7 @@ fn length(n: usize) {
 }
 
 // Setting 2 in stores of 0, 1, 4 and 5 entries, and with a part of one.
-pub fn lengths() {
+pub(crate) fn lengths() {
     length(0);
     length(5);
     length(RUN);
@@ -176,7 +176,7 @@ pub fn lengths() {
 }
 
 // The same in 1,024 entries and more.
-pub fn long_lengths() {
+pub(crate) fn long_lengths() {
     length(1024 * RUN);
     length(1024 * RUN + 5);
     length(1025 * RUN);
@@ -189,7 +189,7 @@ fn bare() -> matrix::Matrix {
 }
 
 // No catch-all, in a store of nothing and in one of 1,025 entries.
-pub fn no_catch() {
+pub(crate) fn no_catch() {
     say::text(b"no catch-all, store of 0: ");
     fill_in(bare(), ON, 0);
     say::text(b"no catch-all, 1,025 entries: ");
@@ -239,7 +239,7 @@ fn ruled(name: &[u8], first: u16, count: usize) {
 }
 
 // A matrix without catch-all, with one thing more against it: that number comes first.
-pub fn orders() {
+pub(crate) fn orders() {
     counted(b"no catch-all, 17 columns: ", 17, 1);
     counted(b"no catch-all, 65 rows: ", 1, 65);
     counted(b"no rows: ", 1, 0);
@@ -248,7 +248,7 @@ pub fn orders() {
     valued(b"no catch-all, no net: ", 18195);
 }
 
-pub fn more_orders() {
+pub(crate) fn more_orders() {
     rowed(b"no catch-all, no trit: ", 3, 1);
     rowed(b"no trit, pattern of 17: ", 3, 17);
     ruled(b"no catch-all, constant rule: ", 1, 1);

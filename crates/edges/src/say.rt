@@ -3,33 +3,46 @@ use crate::numbers;
 
 const OUT: i32 = 1;
 
-pub fn text(s: &[u8]) {
+pub(crate) fn text(s: &[u8]) {
     io::write_all(OUT, s);
 }
 
-pub fn decimal(n: usize) {
+pub(crate) fn decimal(n: usize) {
     io::print_decimal(OUT, n as u64);
 }
 
-pub fn line(s: &[u8]) {
+pub(crate) fn line(s: &[u8]) {
     text(s);
     text(b"\n");
 }
 
-pub fn refused(no: u8) {
+pub(crate) fn refused(no: u8) {
     text(b"refused ");
     decimal(no as usize);
     text(b"\n");
 }
 
-// The first n bytes, or all.
-pub fn bytes(out: &[u8], n: usize) {
+// The first n bytes, where there are as many.
+pub(crate) fn bytes(out: &[u8], n: usize) {
     if n <= out.len() {
         io::write_all(OUT, &out[..n]);
     }
 }
 
-pub fn built(root: rules::Place, size: usize) {
+fn tree_of(n: usize) {
+    text(b"tree of ");
+    decimal(n);
+    text(b"\n");
+}
+
+pub(crate) fn checked(c: tree::Checked) {
+    match c {
+        tree::Checked::Tree(n) => tree_of(n),
+        tree::Checked::Refused(no) => refused(no),
+    }
+}
+
+pub(crate) fn built(root: rules::Place, size: usize) {
     text(b"root ");
     decimal(root.0);
     text(b", size ");
@@ -38,7 +51,7 @@ pub fn built(root: rules::Place, size: usize) {
 }
 
 // The value's nets as codes, with those past its width.
-pub fn emitted(e: emit::Emitted) {
+pub(crate) fn emitted(e: emit::Emitted) {
     if e.no != 0 {
         refused(e.no);
         return;
@@ -52,7 +65,7 @@ pub fn emitted(e: emit::Emitted) {
     numbers::show(&nets);
 }
 
-pub fn together(t: emit::Together) {
+pub(crate) fn together(t: emit::Together) {
     match t {
         emit::Together::Length(n) => length(n),
         emit::Together::Refused(no) => refused(no),
@@ -66,9 +79,22 @@ fn length(n: usize) {
 }
 
 // A printed tree stands at the start of the bytes.
-pub fn printed(p: text::Printed, out: &[u8]) {
+pub(crate) fn printed(p: text::Printed, out: &[u8]) {
     match p {
         text::Printed::Done(n) => bytes(out, n),
+        text::Printed::Refused(no) => refused(no),
+    }
+}
+
+fn bytes_of(n: usize) {
+    decimal(n);
+    text(b" bytes\n");
+}
+
+// How long a text is.
+pub(crate) fn counted(p: text::Printed) {
+    match p {
+        text::Printed::Done(n) => bytes_of(n),
         text::Printed::Refused(no) => refused(no),
     }
 }

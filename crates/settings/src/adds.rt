@@ -9,7 +9,7 @@ const CODES: usize = 65536;
 
 const MASKS: usize = 256;
 
-pub fn all() {
+pub(crate) fn all() {
     each_rule();
     each_mask();
     shapes();

@@ -2,7 +2,7 @@
 use crate::calls;
 use crate::say;
 
-pub fn all() {
+pub(crate) fn all() {
     settings();
     setting_12();
     setting_12_nets();
@@ -55,14 +55,14 @@ fn setting_12_nets() {
 }
 
 // 64 rows of don't-cares.
-pub fn tall() -> matrix::Matrix {
+pub(crate) fn tall() -> matrix::Matrix {
     text::read(
         b"[ %0 ]:\n  X => (empty)\n  X => (empty)\n  X => (empty)\n  X => (empty)\n  X => (empty)\n  X => (empty)\n  X => (empty)\n  X => (empty)\n  X => (empty)\n  X => (empty)\n  X => (empty)\n  X => (empty)\n  X => (empty)\n  X => (empty)\n  X => (empty)\n  X => (empty)\n  X => (empty)\n  X => (empty)\n  X => (empty)\n  X => (empty)\n  X => (empty)\n  X => (empty)\n  X => (empty)\n  X => (empty)\n  X => (empty)\n  X => (empty)\n  X => (empty)\n  X => (empty)\n  X => (empty)\n  X => (empty)\n  X => (empty)\n  X => (empty)\n  X => (empty)\n  X => (empty)\n  X => (empty)\n  X => (empty)\n  X => (empty)\n  X => (empty)\n  X => (empty)\n  X => (empty)\n  X => (empty)\n  X => (empty)\n  X => (empty)\n  X => (empty)\n  X => (empty)\n  X => (empty)\n  X => (empty)\n  X => (empty)\n  X => (empty)\n  X => (empty)\n  X => (empty)\n  X => (empty)\n  X => (empty)\n  X => (empty)\n  X => (empty)\n  X => (empty)\n  X => (empty)\n  X => (empty)\n  X => (empty)\n  X => (empty)\n  X => (empty)\n  X => (empty)\n  X => (empty)\n  X => (empty)\n",
     ).matrix
 }
 
 // 16 columns, and a row.
-pub fn wide() -> matrix::Matrix {
+pub(crate) fn wide() -> matrix::Matrix {
     text::read(
         b"[ %15 %14 %13 %12 %11 %10 %9 %8 %7 %6 %5 %4 %3 %2 %1 %0 ]:\n  XXXX_XXXX_XXXX_XXXX => %20\n",
     ).matrix

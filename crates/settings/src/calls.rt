@@ -1,7 +1,7 @@
 // Each call on matrices that are given as texts, told in one line or with the matrix that it makes. A net is given by its code.
 use crate::say;
 
-pub fn merge(label: &[u8], parent: &[u8], at: u16, child: &[u8]) {
+pub(crate) fn merge(label: &[u8], parent: &[u8], at: u16, child: &[u8]) {
     let m = text::read(parent).matrix;
     say::told(
         label,
@@ -11,15 +11,15 @@ pub fn merge(label: &[u8], parent: &[u8], at: u16, child: &[u8]) {
 }
 
 // At a cell whose code may be past what a slot can hold.
-pub fn merge_cell(label: &[u8], m: matrix::Matrix, n: u16) {
+pub(crate) fn merge_cell(label: &[u8], m: matrix::Matrix, n: u16) {
     say::told(label, m.merge(say::cell(n), m), m);
 }
 
-pub fn merge_made(label: &[u8], m: matrix::Matrix, at: u16, child: matrix::Matrix) {
+pub(crate) fn merge_made(label: &[u8], m: matrix::Matrix, at: u16, child: matrix::Matrix) {
     say::told(label, m.merge(trits::inner::net(at), child), m);
 }
 
-pub fn assume(label: &[u8], of: &[u8], target: u16, value: u8) {
+pub(crate) fn assume(label: &[u8], of: &[u8], target: u16, value: u8) {
     let m = text::read(of).matrix;
     say::told(
         label,
@@ -28,43 +28,43 @@ pub fn assume(label: &[u8], of: &[u8], target: u16, value: u8) {
     );
 }
 
-pub fn assume_cell(label: &[u8], m: matrix::Matrix, n: u16) {
+pub(crate) fn assume_cell(label: &[u8], m: matrix::Matrix, n: u16) {
     say::told(label, m.assume(say::cell(n), rules::Trit::One), m);
 }
 
-pub fn enable(label: &[u8], of: &[u8], code: u16) {
+pub(crate) fn enable(label: &[u8], of: &[u8], code: u16) {
     let m = text::read(of).matrix;
     say::told(label, m.add_enable(trits::inner::net(code)), m);
 }
 
-pub fn enable_cell(label: &[u8], m: matrix::Matrix, n: u16) {
+pub(crate) fn enable_cell(label: &[u8], m: matrix::Matrix, n: u16) {
     say::told(label, m.add_enable(say::cell(n)), m);
 }
 
 // Whether the enable makes the matrix that is expected.
-pub fn enable_made(label: &[u8], m: matrix::Matrix, code: u16, expected: matrix::Matrix) {
+pub(crate) fn enable_made(label: &[u8], m: matrix::Matrix, code: u16, expected: matrix::Matrix) {
     say::made(label, m.add_enable(trits::inner::net(code)), expected);
 }
 
 // How many rules are given in one call here; fewer are given by repeats.
 pub const NAMED: usize = 10;
 
-pub fn add(label: &[u8], m: matrix::Matrix, pattern: &[u8], named: [u16; NAMED]) {
+pub(crate) fn add(label: &[u8], m: matrix::Matrix, pattern: &[u8], named: [u16; NAMED]) {
     say::told(label, m.add(pattern, &named), m);
 }
 
 // With one don't-care as the pattern, and with two.
-pub fn add_x(label: &[u8], m: matrix::Matrix, named: [u16; NAMED]) {
+pub(crate) fn add_x(label: &[u8], m: matrix::Matrix, named: [u16; NAMED]) {
     let x = [2u8; 1];
     say::told(label, m.add(&x, &named), m);
 }
 
-pub fn add_xx(label: &[u8], m: matrix::Matrix, named: [u16; NAMED]) {
+pub(crate) fn add_xx(label: &[u8], m: matrix::Matrix, named: [u16; NAMED]) {
     let xx = [2u8; 2];
     say::told(label, m.add(&xx, &named), m);
 }
 
-pub fn add_none(label: &[u8], m: matrix::Matrix, pattern: &[u8]) {
+pub(crate) fn add_none(label: &[u8], m: matrix::Matrix, pattern: &[u8]) {
     let none = [0u16; 0];
     say::told(label, m.add(pattern, &none), m);
 }

@@ -10,7 +10,7 @@ const TEXT_MAX: usize = 4773;
 // The largest count that a slot for one can hold.
 const MOST: usize = 18446744073709551615;
 
-pub fn all() {
+pub(crate) fn all() {
     apart();
     apart_rows();
     accepted_all();

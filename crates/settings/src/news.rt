@@ -5,7 +5,7 @@ use crate::tally;
 // As many codes as a slot can hold.
 const CODES: usize = 65536;
 
-pub fn all() {
+pub(crate) fn all() {
     each();
     counts();
     order();

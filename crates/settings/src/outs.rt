@@ -10,7 +10,7 @@ const RULES: u16 = rules::RULES_MAX as u16;
 
 const MOST: usize = rules::ROWS_MAX * rules::RULES_MAX;
 
-pub fn all() {
+pub(crate) fn all() {
     none();
     few();
     most();

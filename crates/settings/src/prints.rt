@@ -4,7 +4,7 @@ use crate::say;
 // The bytes of the longest printed matrix.
 const TEXT_MAX: usize = 4773;
 
-pub fn all() {
+pub(crate) fn all() {
     exact();
     short();
     longer();

@@ -12,7 +12,7 @@ const LABEL: u8 = 1;
 
 const TEXT: u8 = 2;
 
-pub fn all() {
+pub(crate) fn all() {
     small();
     tall();
     taller();
@@ -34,7 +34,7 @@ fn find(s: &[u8], at: usize, b: u8) -> usize
 }
 
 // Labels and texts in turn.
-pub fn run(s: &[u8]) {
+pub(crate) fn run(s: &[u8]) {
     let mut at = 0;
     while at < s.len() {
         let a = find(s, at, LABEL);
@@ -69,7 +69,7 @@ fn again(m: matrix::Matrix, s: &[u8]) {
 }
 
 // The number and the line; where it reads, whether it prints back to itself; where not, a word if there are columns or rows.
-pub fn taken(label: &[u8], s: &[u8]) {
+pub(crate) fn taken(label: &[u8], s: &[u8]) {
     let r = text::read(s);
     say::text(label);
     say::next(r.no as usize);

@@ -43,7 +43,7 @@ fn columns(a: matrix::Matrix, b: matrix::Matrix) -> bool {
     nets(&p, &q)
 }
 
-pub fn matrices(a: matrix::Matrix, b: matrix::Matrix) -> bool {
+pub(crate) fn matrices(a: matrix::Matrix, b: matrix::Matrix) -> bool {
     if a.count != b.count {
         return false;
     }

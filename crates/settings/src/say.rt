@@ -6,35 +6,35 @@ const OUT: i32 = 1;
 // The bytes of the longest printed matrix.
 const TEXT_MAX: usize = 4773;
 
-pub fn text(s: &[u8]) {
+pub(crate) fn text(s: &[u8]) {
     io::write_all(OUT, s);
 }
 
 // A space and a number.
-pub fn next(n: usize) {
+pub(crate) fn next(n: usize) {
     io::write_all(OUT, b" ");
     io::print_decimal(OUT, n as u64);
 }
 
-pub fn count(label: &[u8], n: usize) {
+pub(crate) fn count(label: &[u8], n: usize) {
     io::write_all(OUT, label);
     next(n);
     io::write_all(OUT, b"\n");
 }
 
-pub fn number(label: &[u8], no: u8) {
+pub(crate) fn number(label: &[u8], no: u8) {
     count(label, no as usize);
 }
 
 // The number of a call, and a word where the matrix that it hands back is not the one expected, slot for slot.
-pub fn kept(made: matrix::Made, expected: matrix::Matrix) {
+pub(crate) fn kept(made: matrix::Made, expected: matrix::Matrix) {
     next(made.no as usize);
     if !same::matrices(made.matrix, expected) {
         text(b" changed");
     }
 }
 
-pub fn made(label: &[u8], made: matrix::Made, expected: matrix::Matrix) {
+pub(crate) fn made(label: &[u8], made: matrix::Made, expected: matrix::Matrix) {
     text(label);
     kept(made, expected);
     text(b"\n");
@@ -47,7 +47,7 @@ fn bytes(out: &[u8], n: usize) {
 }
 
 // A matrix as its text, or the number against it.
-pub fn shown(m: matrix::Matrix) {
+pub(crate) fn shown(m: matrix::Matrix) {
     let mut out = [0u8; TEXT_MAX];
     match text::print(m, &mut out) {
         text::Printed::Done(n) => bytes(&out, n),
@@ -56,7 +56,7 @@ pub fn shown(m: matrix::Matrix) {
 }
 
 // The number; where accepted the matrix that was made, else a word if it is not the one handed in.
-pub fn told(label: &[u8], made: matrix::Made, given: matrix::Matrix) {
+pub(crate) fn told(label: &[u8], made: matrix::Made, given: matrix::Matrix) {
     text(label);
     next(made.no as usize);
     if made.no == 0 {
@@ -70,11 +70,11 @@ pub fn told(label: &[u8], made: matrix::Made, given: matrix::Matrix) {
     text(b"\n");
 }
 
-pub fn cell(n: u16) -> rules::Net {
+pub(crate) fn cell(n: u16) -> rules::Net {
     rules::Net::Cell(rules::Cell(n))
 }
 
 // The matrix without columns and rows.
-pub fn blank() -> matrix::Matrix {
+pub(crate) fn blank() -> matrix::Matrix {
     text::read(b"[ ]:\n").matrix
 }

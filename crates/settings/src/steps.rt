@@ -3,7 +3,7 @@ use crate::bench;
 use crate::calls;
 use crate::say;
 
-pub fn all() {
+pub(crate) fn all() {
     assumed();
     assumed_constants();
     assume_cells();

@@ -10,7 +10,7 @@ const NET: u8 = 4;
 
 const FORM: u8 = 12;
 
-pub fn start() -> Tally {
+pub(crate) fn start() -> Tally {
     Tally {
         accepted: 0,
         net: 0,
@@ -23,7 +23,7 @@ fn more(n: u64) -> u64 {
     std::num::wrapping_add_u64(n, 1)
 }
 
-pub fn with(t: Tally, no: u8) -> Tally {
+pub(crate) fn with(t: Tally, no: u8) -> Tally {
     let mut n = t;
     if no == 0 {
         n.accepted = more(t.accepted);
@@ -43,7 +43,7 @@ fn part(n: u64, word: &[u8]) {
     io::write_all(1, word);
 }
 
-pub fn told(label: &[u8], t: Tally) {
+pub(crate) fn told(label: &[u8], t: Tally) {
     io::write_all(1, label);
     part(t.accepted, b" accepted,");
     part(t.net, b" refused 4,");

@@ -4,7 +4,7 @@ use crate::reads;
 // More than any line of a printed matrix has.
 const LONG: usize = 10000;
 
-pub fn all() {
+pub(crate) fn all() {
     of_line_1();
     of_line_2();
     long_lines();

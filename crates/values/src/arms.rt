@@ -11,7 +11,7 @@ fn mux(name: &[u8], table: &[u16]) {
     ask::cell(name, table, 1, &none, FIRST);
 }
 
-pub fn unknown() {
+pub(crate) fn unknown() {
     mux(b"select X, arms 1: ", &[2, 1, 1]);
     mux(b"select X, arms 0: ", &[2, 0, 0]);
     mux(b"select X, arms X: ", &[2, 2, 2]);
@@ -19,7 +19,7 @@ pub fn unknown() {
     mux(b"select %0 unknown, arms %1 unknown: ", &[3, 4, 4]);
 }
 
-pub fn known() {
+pub(crate) fn known() {
     mux(b"select 1: ", &[1, 0, 1]);
     mux(b"select 0: ", &[0, 0, 1]);
     let none = [0u8; 0];

@@ -13,7 +13,7 @@ fn trit(t: rules::Trit) {
     }
 }
 
-pub fn refused(no: u8) {
+pub(crate) fn refused(no: u8) {
     text(b"refused ");
     io::print_decimal(OUT, no as u64);
     text(b"\n");
@@ -26,12 +26,12 @@ fn answer(v: evaluate::Value) {
     }
 }
 
-pub fn net(name: &[u8], table: &[u16], count: usize, trits: &[u8], asked: rules::Net) {
+pub(crate) fn net(name: &[u8], table: &[u16], count: usize, trits: &[u8], asked: rules::Net) {
     text(name);
     answer(evaluate::evaluate(table, count, trits, asked));
 }
 
-pub fn cell(name: &[u8], table: &[u16], count: usize, trits: &[u8], asked: u16) {
+pub(crate) fn cell(name: &[u8], table: &[u16], count: usize, trits: &[u8], asked: u16) {
     net(
         name,
         table,

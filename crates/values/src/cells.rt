@@ -16,20 +16,20 @@ fn constant(name: &[u8], asked: rules::Trit) {
     ask::net(name, &table, 0, &ones, rules::Net::Const(asked));
 }
 
-pub fn given() {
+pub(crate) fn given() {
     let ones = [1u8; 5];
     bare(b"last trit: ", &ones, 4);
     bare(b"past the end: ", &ones, 5);
     bare(b"%9999 past the end: ", &ones, rules::CELL_MAX);
 }
 
-pub fn constants() {
+pub(crate) fn constants() {
     constant(b"asked 0: ", rules::Trit::Zero);
     constant(b"asked 1: ", rules::Trit::One);
     constant(b"asked X: ", rules::Trit::Undef);
 }
 
-pub fn driven() {
+pub(crate) fn driven() {
     let ones = [1u8; 5];
     let two = [1u16, 1, 0, 1, 0, 1];
     bare(b"asked %10000 of no entries: ", &ones, rules::CELL_MAX + 1);

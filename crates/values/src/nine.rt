@@ -49,7 +49,7 @@ fn at(name: &[u8], trits: &[u8]) {
     stored(name, r.matrix, trits);
 }
 
-pub fn values() {
+pub(crate) fn values() {
     let none = [0u8; 0];
     at(b"setting 9, no trits: ", &none);
     at(b"setting 9, %0 is X: ", &[2]);

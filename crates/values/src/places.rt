@@ -26,7 +26,7 @@ fn spoiled(trits: &mut [u8]) {
     put(b"no trit at 0: ", trits, 0, 255);
 }
 
-pub fn all() {
+pub(crate) fn all() {
     let mut ones = [1u8; TRITS];
     spoiled(&mut ones);
 }

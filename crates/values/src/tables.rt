@@ -21,12 +21,12 @@ fn formed(name: &[u8], table: &[u16], count: usize) {
     );
 }
 
-pub fn counts() {
+pub(crate) fn counts() {
     formed(b"more in use: ", &[0, 0, 0], 2);
     formed(b"more in use than whole: ", &[0, 0, 0, 0, 0], 2);
 }
 
-pub fn operands() {
+pub(crate) fn operands() {
     formed(b"by itself: ", &[10003, 0, 0], 1);
     formed(b"by a later: ", &[0, 0, 10004, 0, 0, 0], 2);
     formed(b"by none: ", &[0, 18194, 0], 1);
@@ -39,12 +39,12 @@ fn cell(name: &[u8], table: &[u16], asked: u16) {
     ask::cell(name, table, rules::MUX_MAX, &none, asked);
 }
 
-pub fn full() {
+pub(crate) fn full() {
     let ones = [1u16; FULL];
     cell(b"8,192 in use: ", &ones, LAST);
 }
 
-pub fn long() {
+pub(crate) fn long() {
     let ones = [1u16; LONG];
     cell(b"8,192 in use, asked %18192: ", &ones, LAST + 1);
     formed(b"8,193 in use: ", &ones, rules::MUX_MAX + 1);

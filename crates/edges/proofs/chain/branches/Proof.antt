@@ -1,8 +1,8 @@
 use mathlib.Core.Path.{_≡_}
 use lib.ListN.{length}
 use borrow.Author.Needs.{needs}
-use Rattle.trees.proofs.chain.branches.Statement.{statement}
-use Rattle.trees.proofs.chain.branches.Tie as tie
+use Rattle.edges.proofs.chain.branches.Statement.{statement}
+use Rattle.edges.proofs.chain.branches.Tie as tie
 
 abbrev Inv-loop : tie.InvT-loop
 Inv-loop store₀ depth test₀ store test = length store ≡ length store₀

@@ -126,7 +126,7 @@ fn whole_text(store: &[u16]) {
     print_ends(store, &mut out);
 }
 
-pub fn deepest() {
+pub(crate) fn deepest() {
     let mut store = [0u16; CHAIN * RUN];
     build(&mut store, DEEP);
     size(b"chain of 511: ", &store, 1022);
@@ -136,7 +136,7 @@ pub fn deepest() {
 }
 
 // The deepest branch tests the net of the root.
-pub fn spoiled() {
+pub(crate) fn spoiled() {
     let mut store = [0u16; CHAIN * RUN];
     build(&mut store, DEEP);
     set(&mut store, RUN * 512 + 1, 0);
@@ -145,7 +145,7 @@ pub fn spoiled() {
 }
 
 // Its root would be at place 1,024.
-pub fn longer() {
+pub(crate) fn longer() {
     let mut store = [0u16; CHAIN * RUN];
     build(&mut store, DEEP + 1);
     size(b"chain of 512: ", &store, 1024);

@@ -38,7 +38,7 @@ fn fine(name: &[u8], tree: &[u8], root: usize) {
     print_to(&store[..n], root);
 }
 
-pub fn leaves() {
+pub(crate) fn leaves() {
     fine(b"an empty leaf: ", b"0*9", 0);
     fine(b"a leaf: ", b"1 10 0*7", 0);
     fine(b"rule %9999: ", b"1 9999 0*7", 0);
@@ -48,7 +48,7 @@ pub fn leaves() {
     put(b"count 10: ", b"10 1 2 3 4 5 6 7 8", 0);
 }
 
-pub fn runs() {
+pub(crate) fn runs() {
     put(b"rules not ascending: ", b"2 11 10 0*6", 0);
     put(b"a rule twice: ", b"2 10*2 0*6", 0);
     put(b"a number past the rules: ", b"1 10 11 0*6", 0);
@@ -56,7 +56,7 @@ pub fn runs() {
     put(b"a number past the size: ", b"0*18 9 0 1 0*5 1", 2);
 }
 
-pub fn roots() {
+pub(crate) fn roots() {
     put(b"root past the store: ", b"0*9", 1);
     put(b"root in a part: ", b"0*8", 0);
     put(b"root 2^64 - 1: ", b"0*9", 18446744073709551615);
@@ -65,7 +65,7 @@ pub fn roots() {
     put(b"one arm missing: ", b"0*9 9 0 1 0*6", 1);
 }
 
-pub fn branches() {
+pub(crate) fn branches() {
     fine(b"a branch: ", b"1 10 0*7 1 11 0*7 9 0 1 0*6", 2);
     put(b"size 0: ", b"1 10 0*7 1 11 0*7 9 0*8", 2);
     put(b"size 2: ", b"1 10 0*7 1 11 0*7 9 0 2 0*6", 2);
@@ -79,7 +79,7 @@ pub fn branches() {
     put(b"test %10000: ", b"0*9 1 10 0*7 9 10000 1 0*6", 2);
 }
 
-pub fn paths() {
+pub(crate) fn paths() {
     fine(b"equal arms: ", b"1 10 0*7 1 10 0*7 9 0 1 0*6", 2);
     fine(b"empty arms: ", b"0*18 9 0 1 0*6", 2);
     put(b"a test twice on a path: ", b"0*27 9 0 1 0*6 9 0 3 0*6", 4);
@@ -103,7 +103,7 @@ fn print_one(out: &mut [u8]) {
     print_all(&store[..n], 2, out);
 }
 
-pub fn rooms() {
+pub(crate) fn rooms() {
     let mut exact = [b'.'; 28];
     say::line(b"text of setting 1 in 28 bytes");
     print_one(&mut exact);
@@ -115,7 +115,7 @@ pub fn rooms() {
     print_one(&mut long);
 }
 
-pub fn bad_text() {
+pub(crate) fn bad_text() {
     let mut out = [b'.'; 3];
     let store = [0u16; 2 * tree::inner::NODE_RUN];
     say::text(b"text of two trees: ");
