@@ -4,7 +4,7 @@ ghost use mathlib.Core.Path.{_≡_};
 ghost use Prim.Native.Nat.{min};
 ghost use Rattle.abi.specs.Plain.{answered, assumed, dispatched, last};
 ghost use Rattle.dispatch.specs.Good.{builtRead};
-ghost use Rattle.emit.specs.Sends.{emittedFrom, prefixRead};
+ghost use Rattle.emit.specs.Calls.{emittedFrom, prefixRead};
 ghost use Rattle.evaluate.specs.Values.{valueRead};
 ghost use Rattle.matrix.specs.Mat.{given, madeFrom};
 ghost use Rattle.matrix.specs.Outs.{outputsFrom};

@@ -9,7 +9,7 @@ use borrow.Author.Tests.{eqb-false, ltb-false}
 use lib.Dec.{eqb}
 use lib.ListN.{getD, length, take}
 use Rattle.dispatch.specs.Good.{builtRead}
-use Rattle.emit.specs.Sends.{emittedFrom}
+use Rattle.emit.specs.Calls.{emittedFrom}
 use Rattle.emit.specs.declared.Emitted.{Emitted}
 use Rattle.evaluate.specs.Values.{valueRead}
 use Rattle.evaluate.specs.declared.Value.{Value}

@@ -9,9 +9,10 @@ use mathlib.Core.Option.{Option, some}
 use mathlib.Core.Path.{_≡_, refl, sym, ap, ap₂, _∙_}
 use native.Mathlib.Nat.{mul-le-mul}
 use native.Mathlib.Omega.{arith}
-use Rattle.emit.proofs.Splits.{tests-low, tree-fine}
-use Rattle.emit.specs.Sends.{CanEmit, CanPlace, Sends, between, emittedFrom, placed, placedAfter, roomNo}
-use Rattle.emit.specs.declared.inner.Sent.{Sent}
+use Rattle.muxes.proofs.Splits.{tests-low, tree-fine}
+use Rattle.emit.specs.Calls.{CanPlace, between, emittedFrom, placed, placedAfter, roomNo}
+use Rattle.muxes.specs.Sends.{CanEmit, Sends}
+use Rattle.muxes.specs.declared.inner.Sent.{Sent}
 use Rattle.evaluate.proofs.Turns.{table-room}
 use Rattle.lists.specs.Bools.{by-bool}
 use Rattle.lists.specs.Lists.{all}

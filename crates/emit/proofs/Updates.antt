@@ -9,11 +9,11 @@ use mathlib.Core.List.{List, [], _∷_}
 use mathlib.Core.Option.{some}
 use mathlib.Core.Path.{_≡_, refl, sym, ap, ap₂, _∙_}
 use native.Mathlib.Omega.{arith}
-use Rattle.emit.proofs.Leaves.{any-tree}
+use Rattle.muxes.proofs.Leaves.{any-tree}
 use Rattle.emit.proofs.Places.{all-same, fault, faultless, found-is, low-in, name-in, net-in, nets-in, tree-parts}
-use Rattle.emit.proofs.Spans.{up, updates-more}
-use Rattle.emit.specs.Leaves.{anyLeaf}
-use Rattle.emit.specs.Sends.{CanPlace, between, emittedFrom, placed, placedAfter, updateIn, updateWide}
+use Rattle.muxes.proofs.Spans.{up, updates-more}
+use Rattle.muxes.specs.Leaves.{anyLeaf}
+use Rattle.emit.specs.Calls.{CanPlace, between, emittedFrom, placed, placedAfter, updateIn, updateWide}
 use Rattle.lists.specs.Bools.{and-left, and-right, not-is}
 use Rattle.lists.specs.Lists.{all}
 use Rattle.rules.proofs.Answers.{disjoint-wide}

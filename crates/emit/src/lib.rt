@@ -2,13 +2,12 @@
 // It evaluates nothing and simplifies nothing.
 ghost use lib.ListN.{length};
 ghost use mathlib.Core.Path.{_≡_};
-ghost use Rattle.emit.specs.Sends.{CanPlace, between, emittedFrom, gives, placed, placedAfter, prefixRead, updateIn, updateWide};
+ghost use Rattle.emit.specs.Calls.{CanPlace, between, emittedFrom, placed, placedAfter, prefixRead, updateIn, updateWide};
 ghost use Rattle.lists.specs.Lists.{all};
+ghost use Rattle.muxes.specs.Sends.{gives};
 ghost use Rattle.rules.specs.Answers.{disjointAfter, disjointAnswer, oneHotAfter, oneHotAnswer, prefixAnswer};
 ghost use Rattle.rules.specs.Emit.{updatesOf};
 ghost use Rattle.rules.specs.Refuse.{refused};
-
-pub mod inner;
 
 // The number, 0 where accepted; the nets of the value with 0 after them, how many, and the entries then in use.
 #[repr(C)]
@@ -143,7 +142,7 @@ pub fn disjoint(
         return refuse(WIDTH);
     }
     let k = tree::inner::NODE_RUN * (root.0 + 1);
-    if inner::some_leaf(&store[..k], false, nets, widths, bits) {
+    if muxes::inner::some_leaf(&store[..k], false, nets, widths, bits) {
         return refuse(OVERLAP);
     }
     place(
@@ -173,7 +172,7 @@ fn updates_between(
     let mut p = 0;
     let mut i = 0;
     while i < nets.len() {
-        let e = p + inner::cut_width(widths, i, bits.len() - p);
+        let e = p + muxes::inner::cut_width(widths, i, bits.len() - p);
         if !in_range(nets[i], first, last) {
             return false;
         }
@@ -193,7 +192,7 @@ fn updates_wide(nets: &[u16], widths: &[usize], bits: &[u16], width: usize) -> b
     let mut p = 0;
     let mut i = 0;
     while i < nets.len() {
-        let w = inner::cut_width(widths, i, bits.len() - p);
+        let w = muxes::inner::cut_width(widths, i, bits.len() - p);
         if w != width {
             return false;
         }
@@ -223,7 +222,7 @@ pub fn prefix(store: &[u16], root: rules::Place, outputs: &[u16], enables: &[u16
         return Together::Refused(NET);
     }
     let k = tree::inner::NODE_RUN * (root.0 + 1);
-    Together::Length(inner::longest(&store[..k], outputs, enables))
+    Together::Length(muxes::inner::longest(&store[..k], outputs, enables))
 }
 
 fn refuse(no: u8) -> Emitted
@@ -258,7 +257,7 @@ fn place(
         return refuse(ROOM);
     }
     let k = tree::inner::NODE_RUN * size;
-    let s = inner::emit(&store[..k], hot, nets, widths, bits, value, table, count);
+    let s = muxes::inner::emit(&store[..k], hot, nets, widths, bits, value, table, count);
     let x = s.nets;
     Emitted {
         no: 0,

@@ -14,14 +14,14 @@ use Rattle.rules.specs.Nets.{cell, first-mux}
 use Rattle.rules.specs.Print.{arm, armHead, indent, net, printedTree, ruleText, trit}
 use Rattle.rules.specs.Refusals.{allLow}
 use Rattle.rules.specs.Tree.{leaf}
-use Rattle.text.proofs.Laws.{put-nil, put-put, put-then}
-use Rattle.text.proofs.Numbers.{low-at}
-use Rattle.text.proofs.Prints.{take-put}
-use Rattle.text.proofs.Rows.{arrow, margin}
+use Rattle.print.proofs.Laws.{put-nil, put-put, put-then}
+use Rattle.print.proofs.Numbers.{low-at}
+use Rattle.print.proofs.Prints.{take-put}
+use Rattle.print.proofs.Rows.{arrow, margin}
 use Rattle.text.proofs.RowsIn.{rules-few}
 use Rattle.text.proofs.Values.{net-few}
 use Rattle.text.specs.Longs.{head-max, rules-long}
-use Rattle.text.specs.Put.{Put, Room}
+use Rattle.print.specs.Put.{Put, Room}
 use Rattle.text.specs.Trees.{Laid, LeafFits, branchLine, lastRules, ruleEnd}
 
 -- ---- what is laid

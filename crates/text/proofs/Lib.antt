@@ -1,10 +1,6 @@
-pub mod Laws
 pub mod Lays
 pub mod Nets
-pub mod Numbers
-pub mod Prints
 pub mod Reader
-pub mod Rows
 pub mod RowsIn
 pub mod Scans
 pub mod Trees

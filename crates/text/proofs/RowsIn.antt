@@ -25,13 +25,13 @@ use Rattle.rules.specs.Read.{isRowLine, rowIn, tritIn}
 use Rattle.rules.specs.Trits.{isTrit}
 use Rattle.sets.specs.Sets.{listOf}
 use Rattle.text.proofs.Nets.{scan-few, scan-printed, scan-stop, word-front}
-use Rattle.text.proofs.Prints.{names-low}
-use Rattle.text.proofs.Rows.{arrow, margin, row-is, row-long}
+use Rattle.print.proofs.Prints.{names-low}
+use Rattle.print.proofs.Rows.{arrow, margin, row-is, row-long}
 use Rattle.text.proofs.Values.{nets-few}
 use Rattle.text.specs.Longs.{row-max, rules-long}
 use Rattle.text.specs.Scan.{figureOf, looseRow, patternAt, rulesAt, scanned, wordAt}
 use Rattle.text.specs.Taken.{bare, rowTaken}
-use Rattle.text.specs.Texts.{RowFits, trits}
+use Rattle.print.specs.Texts.{RowFits, trits}
 use Rattle.text.specs.declared.inner.scan.Word.{Word}
 
 -- ---- the trits, whatever the line

@@ -13,7 +13,7 @@ use Rattle.rules.specs.Bounds.{mux-first}
 use Rattle.rules.specs.Bytes.{byte}
 use Rattle.rules.specs.Nets.{cell, first-mux}
 use Rattle.rules.specs.Print.{digit, digits}
-use Rattle.text.proofs.Numbers.{digits-1, digits-2, digits-3, digits-4}
+use Rattle.print.proofs.Numbers.{digits-1, digits-2, digits-3, digits-4}
 use Rattle.text.specs.Longs.{net-long}
 use Rattle.text.specs.Scan.{cellAt, cellOf, figureOf, noWord, wordAt}
 

@@ -23,7 +23,7 @@ use Rattle.rules.specs.Refuse.{FORM, ROOM, done, refused}
 use Rattle.rules.specs.Store.{isNone, treeAt}
 use Rattle.rules.specs.Tree.{Fit, Tree, fine, leaf, node, size}
 use Rattle.text.proofs.Lays.{arm-leaf, branch-long, end-few, head-few, indent-long, laid-as, laid-then}
-use Rattle.text.proofs.Prints.{names-low, put-front}
+use Rattle.print.proofs.Prints.{names-low, put-front}
 use Rattle.text.specs.Longs.{line-max, tree-max}
 use Rattle.text.specs.Trees.{Laid, LeafFits, branchLine, lastRules, ruleEnd}
 use Rattle.tree.proofs.Handed.{handed-ends, tree-handed}

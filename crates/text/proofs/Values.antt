@@ -23,12 +23,12 @@ use Rattle.rules.specs.Refusals.{allLow}
 use Rattle.sets.specs.Sets.{rulesFrom}
 use Rattle.sets.specs.declared.Rules.{Rules}
 use Rattle.text.proofs.Nets.{scan-few, scan-low, scan-printed, scan-stop, word-front}
-use Rattle.text.proofs.Numbers.{reverse-take}
-use Rattle.text.proofs.Rows.{closing, value-is, value-long}
+use Rattle.print.proofs.Numbers.{reverse-take}
+use Rattle.print.proofs.Rows.{closing, value-is, value-long}
 use Rattle.text.specs.Longs.{net-long, value-max}
 use Rattle.text.specs.Scan.{figureOf, looseNets, scanned, wordAt}
 use Rattle.text.specs.Taken.{valueTaken}
-use Rattle.text.specs.Texts.{downs}
+use Rattle.print.specs.Texts.{downs}
 use Rattle.text.specs.Trees.{ruleEnd}
 use Rattle.text.specs.declared.inner.scan.Word.{Word}
 

@@ -11,7 +11,7 @@ use Rattle.rules.specs.Print.{arm, armHead, ruleText}
 use Rattle.rules.specs.Refusals.{allLow}
 use Rattle.rules.specs.Tree.{Tree}
 use Rattle.text.specs.Longs.{tree-max}
-use Rattle.text.specs.Put.{Room, putAt}
+use Rattle.print.specs.Put.{Room, putAt}
 use Rattle.tree.specs.Form.{Ends}
 
 -- bs is counted from index at, and is put there if it fits; if not, no more is said of the bytes

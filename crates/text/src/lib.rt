@@ -37,11 +37,11 @@ pub fn print(matrix: matrix::Matrix, out: &mut [u8]) -> Printed
         return Printed::Refused(no);
     }
     let mut text = [0u8; TEXT_MAX];
-    let n = inner::lines::whole(&mut text, 0, matrix);
+    let n = print::inner::lines::whole(&mut text, 0, matrix);
     if out.len() < n {
         return Printed::Refused(ROOM);
     }
-    inner::put::bytes(out, 0, &text[..n]);
+    print::inner::put::bytes(out, 0, &text[..n]);
     Printed::Done(n)
 }
 

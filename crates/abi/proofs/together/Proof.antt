@@ -1,7 +1,7 @@
 use Rattle.abi.proofs.together.Statement.{statement}
 use Rattle.abi.proofs.together.Tie as tie
 use Rattle.abi.specs.Plain.{answered}
-use Rattle.emit.specs.Sends.{prefixRead}
+use Rattle.emit.specs.Calls.{prefixRead}
 use Rattle.emit.specs.declared.Together.{Together}
 use borrow.Author.Needs.{needs}
 use mathlib.Core.Path.{_∙_, ap, sym}

@@ -5,7 +5,7 @@ use lib.ListN.{drop, length}
 use mathlib.Core.Path.{_≡_, refl, sym, _∙_}
 use Rattle.emit.proofs.all_between.Statement.{statement}
 use Rattle.emit.proofs.all_between.Tie as tie
-use Rattle.emit.specs.Sends.{between}
+use Rattle.emit.specs.Calls.{between}
 use Rattle.lists.specs.Lists.{all, rest-done, rest-more, rest-stop}
 
 abbrev Inv-loop : tie.InvT-loop

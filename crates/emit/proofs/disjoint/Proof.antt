@@ -12,12 +12,12 @@ use Rattle.emit.proofs.disjoint.Lts as lts
 use Rattle.emit.proofs.disjoint.Reads as reads
 use Rattle.emit.proofs.disjoint.Statement.{statement}
 use Rattle.emit.proofs.disjoint.Tie as tie
-use Rattle.emit.proofs.inner.some_leaf.Reads as some-leaf-reads
+use Rattle.muxes.proofs.inner.some_leaf.Reads as some-leaf-reads
 use Rattle.emit.proofs.place.Reads as place-reads
 use Rattle.emit.proofs.refuse.Reads as refuse-reads
 use Rattle.emit.proofs.updates_between.Reads as updates-between-reads
 use Rattle.emit.proofs.updates_wide.Reads as updates-wide-reads
-use Rattle.emit.specs.Sends.{emittedFrom}
+use Rattle.emit.specs.Calls.{emittedFrom}
 use Rattle.evaluate.proofs.Turns.{is-bad, not-bad}
 use Rattle.evaluate.proofs.inner.formed.Reads as formed-reads
 use Rattle.rules.specs.Bounds.{node-run}

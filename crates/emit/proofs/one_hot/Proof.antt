@@ -5,7 +5,7 @@ use native.Mathlib.Omega.{arith}
 use Rattle.emit.proofs.Places.{found-is, hot-can, hot-form, hot-net, hot-place, hot-width, names-in, nets-in}
 use Rattle.emit.proofs.one_hot.Statement.{statement}
 use Rattle.emit.proofs.one_hot.Tie as tie
-use Rattle.emit.specs.Sends.{emittedFrom}
+use Rattle.emit.specs.Calls.{emittedFrom}
 use Rattle.evaluate.proofs.Turns.{is-bad, not-bad}
 use Rattle.rules.specs.Emit.{badTable}
 use Rattle.rules.specs.Store.{treeAt}

@@ -7,7 +7,7 @@ use native.Mathlib.Omega.{arith}
 use Rattle.emit.proofs.Places.{count-in, need-small, place-can, place-done, place-ends, place-full, root-in}
 use Rattle.emit.proofs.place.Statement.{statement}
 use Rattle.emit.proofs.place.Tie as tie
-use Rattle.emit.specs.Sends.{gives}
+use Rattle.muxes.specs.Sends.{gives}
 use Rattle.rules.specs.Bounds.{node-run}
 use Rattle.rules.specs.Refusals.{treeIn}
 

@@ -7,7 +7,7 @@ use native.Mathlib.Omega.{arith}
 use Rattle.emit.proofs.Updates.{bits-out, both-in, net-out, rest, rest-none}
 use Rattle.emit.proofs.updates_between.Statement.{statement}
 use Rattle.emit.proofs.updates_between.Tie as tie
-use Rattle.emit.specs.Sends.{updateIn}
+use Rattle.emit.specs.Calls.{updateIn}
 use Rattle.lists.specs.Lists.{all}
 use Rattle.rules.specs.Emit.{updatesOf}
 

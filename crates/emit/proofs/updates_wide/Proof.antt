@@ -6,7 +6,7 @@ use native.Mathlib.Omega.{arith}
 use Rattle.emit.proofs.Updates.{rest, rest-none, width-other, width-same}
 use Rattle.emit.proofs.updates_wide.Statement.{statement}
 use Rattle.emit.proofs.updates_wide.Tie as tie
-use Rattle.emit.specs.Sends.{updateWide}
+use Rattle.emit.specs.Calls.{updateWide}
 use Rattle.lists.specs.Lists.{all}
 use Rattle.rules.specs.Emit.{updatesOf}
 

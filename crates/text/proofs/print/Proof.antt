@@ -5,14 +5,14 @@ use mathlib.Core.Path.{sym, _∙_}
 use native.Mathlib.Omega.{arith}
 use Rattle.matrix.proofs.TidySlots.{slots}
 use Rattle.matrix.specs.Mat.{given}
-use Rattle.text.proofs.Prints.{by-check, by-room, fits, printed-whole, text-few}
+use Rattle.print.proofs.Prints.{by-check, by-room, fits, printed-whole, text-few}
 use Rattle.text.proofs.print.Statement.{statement}
 use Rattle.text.proofs.print.Tie as tie
 use Rattle.text.proofs.print.Reads as reads
 use Rattle.text.proofs.print.Lts as lts
 use Rattle.matrix.proofs.inner.check.check.Reads as check-reads
-use Rattle.text.proofs.inner.lines.whole.Reads as whole-reads
-use Rattle.text.proofs.inner.put.bytes.Reads as bytes-reads
+use Rattle.print.proofs.inner.lines.whole.Reads as whole-reads
+use Rattle.print.proofs.inner.put.bytes.Reads as bytes-reads
 
 -- src/lib.rt:25:9
 check-requires : tie.Need-check-requires

@@ -12,8 +12,8 @@ ghost use Rattle.sets.specs.Sets.{rulesFrom};
 ghost use Rattle.text.specs.Scan.{looseNets, looseRow, patternAt, rulesAt, scanned};
 ghost use Rattle.text.specs.Taken.{rowTaken, valueTaken};
 ghost use Rattle.text.specs.Trees.{ruleEnd};
-use crate::inner::lines;
 use crate::inner::scan;
+use print::inner::lines;
 
 // Whether it is a value line, and its nets.
 pub struct Head {

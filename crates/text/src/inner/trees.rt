@@ -1,6 +1,6 @@
 // The lines of a tree. A line is put only where it fits, so that the one walk counts on a buffer without room and writes into one with it.
-use crate::inner::lines;
-use crate::inner::put;
+use print::inner::lines;
+use print::inner::put;
 use tree::inner::Root;
 ghost use lib.ListN.{length};
 ghost use mathlib.Core.Bool.{true};
@@ -15,7 +15,7 @@ ghost use Rattle.rules.specs.Refusals.{allLow};
 ghost use Rattle.rules.specs.Tree.{Tree, leaf as leaf-of};
 ghost use Rattle.rules.specs.Trits.{bit as bit-of};
 ghost use Rattle.text.specs.Longs.{tree-max};
-ghost use Rattle.text.specs.Put.{Put, Room};
+ghost use Rattle.print.specs.Put.{Put, Room};
 ghost use Rattle.text.specs.Trees.{CanLay, Laid, LeafFits, branchLine, lastRules, ruleEnd};
 ghost use Rattle.tree.specs.Form.{Ends, HasTree};
 

@@ -7,7 +7,7 @@ use native.Mathlib.Omega.{arith}
 use Rattle.lists.specs.Bools.{clash}
 use Rattle.rows.specs.Rows.{view}
 use Rattle.rules.specs.Print.{rowLine}
-use Rattle.text.proofs.Prints.{take-put}
+use Rattle.print.proofs.Prints.{take-put}
 use Rattle.text.proofs.RowsIn.{row-few, row-fits-found, row-no, row-yes}
 use Rattle.text.proofs.inner.parse.row.Statement.{statement}
 use Rattle.text.proofs.inner.parse.row.Tie as tie
@@ -17,7 +17,7 @@ use Rattle.check.proofs.same.Reads as same-reads
 use Rattle.rows.proofs.inner.blank.Reads as blank-reads
 use Rattle.sets.proofs.inner.ascending.Reads as ascending-reads
 use Rattle.sets.proofs.inner.named.Reads as named-reads
-use Rattle.text.proofs.inner.lines.row.Reads as row-reads
+use Rattle.print.proofs.inner.lines.row.Reads as row-reads
 use Rattle.text.proofs.inner.parse.loose.Reads as loose-reads
 
 -- src/inner/parse.rt:156:14

@@ -7,14 +7,14 @@ use native.Mathlib.Omega.{arith}
 use Rattle.lists.specs.Bools.{clash}
 use Rattle.lists.specs.Vec.{vec}
 use Rattle.rules.specs.Print.{valueLine}
-use Rattle.text.proofs.Prints.{take-put}
+use Rattle.print.proofs.Prints.{take-put}
 use Rattle.text.proofs.Values.{struct-few, struct-low, struct-short, value-no, value-yes}
 use Rattle.text.proofs.inner.parse.value.Statement.{statement}
 use Rattle.text.proofs.inner.parse.value.Tie as tie
 use Rattle.text.proofs.inner.parse.value.Reads as reads
 use Rattle.text.proofs.inner.parse.value.Lts as lts
 use Rattle.check.proofs.same.Reads as same-reads
-use Rattle.text.proofs.inner.lines.value.Reads as value-reads
+use Rattle.print.proofs.inner.lines.value.Reads as value-reads
 use Rattle.text.proofs.inner.parse.nets.Reads as nets-reads
 
 -- src/inner/parse.rt:62:9

@@ -13,7 +13,7 @@ use Rattle.text.proofs.inner.trees.alone.Statement.{statement}
 use Rattle.text.proofs.inner.trees.alone.Tie as tie
 use Rattle.text.proofs.inner.trees.alone.Reads as reads
 use Rattle.text.proofs.inner.trees.alone.Lts as lts
-use Rattle.text.proofs.inner.put.bytes.Reads as bytes-reads
+use Rattle.print.proofs.inner.put.bytes.Reads as bytes-reads
 use Rattle.text.proofs.inner.trees.lay.Reads as lay-reads
 use Rattle.text.proofs.inner.trees.ruled.Reads as ruled-reads
 

@@ -12,7 +12,7 @@ use Rattle.text.proofs.inner.trees.branch.Statement.{statement}
 use Rattle.text.proofs.inner.trees.branch.Tie as tie
 use Rattle.text.proofs.inner.trees.branch.Reads as reads
 use Rattle.text.proofs.inner.trees.branch.Lts as lts
-use Rattle.text.proofs.inner.put.byte.Reads as byte-reads
+use Rattle.print.proofs.inner.put.byte.Reads as byte-reads
 use Rattle.text.proofs.inner.trees.head.Reads as head-reads
 use Rattle.text.proofs.inner.trees.lay.Reads as lay-reads
 

@@ -6,16 +6,16 @@ use native.Mathlib.Omega.{arith}
 use Rattle.rules.specs.Bytes.{byte}
 use Rattle.rules.specs.Print.{net}
 use Rattle.rules.specs.Trits.{bit}
-use Rattle.text.proofs.Laws.{put-as, put-then}
+use Rattle.print.proofs.Laws.{put-as, put-then}
 use Rattle.text.proofs.Lays.{head-is, head-long}
 use Rattle.text.proofs.inner.trees.head.Statement.{statement}
 use Rattle.text.proofs.inner.trees.head.Tie as tie
 use Rattle.text.proofs.inner.trees.head.Reads as reads
 use Rattle.text.proofs.inner.trees.head.Lts as lts
 use Rattle.text.proofs.inner.trees.sign.Reads as sign-reads
-use Rattle.text.proofs.inner.put.byte.Reads as byte-reads
-use Rattle.text.proofs.inner.put.bytes.Reads as bytes-reads
-use Rattle.text.proofs.inner.put.net.Reads as net-reads
+use Rattle.print.proofs.inner.put.byte.Reads as byte-reads
+use Rattle.print.proofs.inner.put.bytes.Reads as bytes-reads
+use Rattle.print.proofs.inner.put.net.Reads as net-reads
 
 -- src/inner/trees.rt:83:9
 net-requires : tie.Need-net-requires

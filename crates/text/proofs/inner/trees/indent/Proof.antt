@@ -1,14 +1,14 @@
 use borrow.Author.Needs.{needs}
 use native.Mathlib.Omega.{arith}
 use Rattle.rules.specs.Print.{indent}
-use Rattle.text.proofs.Laws.{Todo, todo-all, todo-as, todo-done, todo-more, todo-room}
+use Rattle.print.proofs.Laws.{Todo, todo-all, todo-as, todo-done, todo-more, todo-room}
 use Rattle.text.proofs.Lays.{indent-more, indent-none}
-use Rattle.text.proofs.Rows.{margin}
+use Rattle.print.proofs.Rows.{margin}
 use Rattle.text.proofs.inner.trees.indent.Statement.{statement}
 use Rattle.text.proofs.inner.trees.indent.Tie as tie
 use Rattle.text.proofs.inner.trees.indent.Reads as reads
 use Rattle.text.proofs.inner.trees.indent.Lts as lts
-use Rattle.text.proofs.inner.put.bytes.Reads as bytes-reads
+use Rattle.print.proofs.inner.put.bytes.Reads as bytes-reads
 
 abbrev Inv-loop : tie.InvT-loop
 Inv-loop out₀ at level i₀ a₀ t6 out i a = Todo out₀ at (indent level) out a (indent i)

@@ -2,13 +2,13 @@ use borrow.Author.Needs.{needs}
 use denote.Ref.{now}
 use native.Mathlib.Omega.{arith}
 use Rattle.rules.specs.Print.{indent}
-use Rattle.text.proofs.Laws.{put-then}
+use Rattle.print.proofs.Laws.{put-then}
 use Rattle.text.proofs.Lays.{indent-long, laid-put, laid-short, lay-long}
 use Rattle.text.proofs.inner.trees.lay.Statement.{statement}
 use Rattle.text.proofs.inner.trees.lay.Tie as tie
 use Rattle.text.proofs.inner.trees.lay.Reads as reads
 use Rattle.text.proofs.inner.trees.lay.Lts as lts
-use Rattle.text.proofs.inner.put.bytes.Reads as bytes-reads
+use Rattle.print.proofs.inner.put.bytes.Reads as bytes-reads
 use Rattle.text.proofs.inner.trees.indent.Reads as indent-reads
 
 -- src/inner/trees.rt:42:18

@@ -10,15 +10,15 @@ use Rattle.lists.specs.Vec.{length-vec}
 use Rattle.rules.specs.Bounds.{rules-max}
 use Rattle.rules.specs.Print.{ruleText}
 use Rattle.rules.specs.Refusals.{allLow}
-use Rattle.text.proofs.Laws.{put-as, put-then}
+use Rattle.print.proofs.Laws.{put-as, put-then}
 use Rattle.text.proofs.Lays.{cells-few, end-long, last-is, nets-taken}
 use Rattle.text.specs.Trees.{lastRules}
 use Rattle.text.proofs.inner.trees.ruled.Statement.{statement}
 use Rattle.text.proofs.inner.trees.ruled.Tie as tie
 use Rattle.text.proofs.inner.trees.ruled.Reads as reads
 use Rattle.text.proofs.inner.trees.ruled.Lts as lts
-use Rattle.text.proofs.inner.lines.names.Reads as names-reads
-use Rattle.text.proofs.inner.put.byte.Reads as byte-reads
+use Rattle.print.proofs.inner.lines.names.Reads as names-reads
+use Rattle.print.proofs.inner.put.byte.Reads as byte-reads
 use Rattle.text.proofs.inner.trees.codes.Reads as codes-reads
 
 -- src/inner/trees.rt:70:13

@@ -3,7 +3,7 @@ use Rattle.text.proofs.inner.trees.sign.Statement.{statement}
 use Rattle.text.proofs.inner.trees.sign.Tie as tie
 use Rattle.text.proofs.inner.trees.sign.Reads as reads
 use Rattle.text.proofs.inner.trees.sign.Lts as lts
-use Rattle.text.proofs.inner.put.trit.Reads as trit-reads
+use Rattle.print.proofs.inner.put.trit.Reads as trit-reads
 
 -- src/inner/trees.rt:82:9
 trit-requires : tie.Need-trit-requires

@@ -1,0 +1,4 @@
+pub mod Laws
+pub mod Numbers
+pub mod Prints
+pub mod Rows
