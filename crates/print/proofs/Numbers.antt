@@ -123,6 +123,10 @@ module _ (i x : ℕ) where
   unfolding marked
   marked-first e = rw e
 
+  pub marked-some : 0 < length (marked i x)
+  unfolding marked
+  marked-some = by-bool (gap i) (λ p. rw p (omega arith)) (λ p. rw p (omega arith))
+
   pub marked-no : (i % 4 ≡ 0 → ⊥) → marked i x ≡ trit x ∷ []
   unfolding marked
   marked-no e = rw (ne-eqb (i % 4) 0 e) (by-bool (eqb i 0) (λ p. rw p) (λ p. rw p))

@@ -5,7 +5,7 @@ use mathlib.Core.List.{[], _∷_}
 use mathlib.Core.Path.{ap, sym, _∙_}
 use native.Mathlib.Omega.{arith}
 use Rattle.print.proofs.Laws.{put-as, put-then}
-use Rattle.print.proofs.Numbers.{marked-first, marked-no, marked-yes}
+use Rattle.print.proofs.Numbers.{marked-first, marked-no, marked-some, marked-yes}
 use Rattle.print.proofs.inner.lines.marked.Statement.{statement}
 use Rattle.print.proofs.inner.lines.marked.Tie as tie
 use Rattle.print.proofs.inner.lines.marked.Reads as reads
@@ -19,7 +19,7 @@ mask-requires c κs = search needs
 
 -- src/inner/lines.rt:37:9
 byte-requires : tie.Need-byte-requires
-byte-requires c κs = omega (arith, c .before .before .before .before .pre, ap length (marked-first (c .before .before .before .before .args .i) (c .before .before .before .before .args .x) (c .before .before .if1 .taken)))
+byte-requires c κs = omega (arith, c .before .before .before .before .pre, marked-some (c .before .before .before .before .args .i) (c .before .before .before .before .args .x))
 
 -- src/inner/lines.rt:37:9
 same-length : tie.Need-same-length
@@ -35,7 +35,7 @@ mask-requires-2 c κs = search needs
 
 -- src/inner/lines.rt:40:9
 byte-requires-2 : tie.Need-byte-requires-2
-byte-requires-2 c κs = omega (arith, c .before .before .before .before .before .pre, ap length (marked-no (c .before .before .before .before .before .args .i) (c .before .before .before .before .before .args .x) (c .before .before .if2 .taken)))
+byte-requires-2 c κs = omega (arith, c .before .before .before .before .before .pre, marked-some (c .before .before .before .before .before .args .i) (c .before .before .before .before .before .args .x))
 
 -- src/inner/lines.rt:40:9
 same-length-2 : tie.Need-same-length-2
