@@ -11,7 +11,7 @@ use lib.Dec.{eqb}
 use lib.ListN.{length, getD, take, drop, set, drop-of-length-le}
 use borrow.Author.Tests.{eq-eqb, ne-eqb, eqb-true}
 use Rattle.lists.specs.Bools.{by-bool, clash}
-use lib.Seq.{drop-cons, slice, slice-cons, slice-empty, length-take-le}
+use lib.Seq.{drop-cons, slice, slice-cons, slice-empty}
 
 -- an element if the test says so, in front of a list
 abbrev pub front : {A : Type 0} → Bool → A → List A → List A
@@ -67,24 +67,9 @@ module _ (a b : List ℕ) (i n : ℕ) (h : i < n) (ka : n ≤ length a) (kb : n 
   unfolding same
   same-stop e = rw (slice-cons i n a 0 h ka, slice-cons i n b 0 h kb, ne-eqb _ _ e)
 
-pub same-lengths : (a b : List ℕ) → (length a ≡ length b → ⊥) → same a b ≡ false
-unfolding same
-same-lengths [] [] h = absurd (h refl)
-same-lengths [] (y ∷ ys) h = refl
-same-lengths (x ∷ xs) [] h = refl
-same-lengths (x ∷ xs) (y ∷ ys) h = rw (same-lengths xs ys (λ e. h (ap suc e))) (both (eqb x y))
-  where
-    both : (t : Bool) → (t && false) ≡ false
-    both true = refl
-    both false = refl
-
 pub same-done : (a b : List ℕ) (i n : ℕ) → i ≤ n → n ≤ i → same (slice i n a) (slice i n b) ≡ true
 unfolding same
 same-done a b i n h k = rw (le-antisymm h k, slice-empty n a, slice-empty n b)
-
-pub same-takes : (a b : List ℕ) (m n : ℕ) → m ≤ length a → n ≤ length b → (m ≡ n → ⊥) → same (take m a) (take n b) ≡ false
-unfolding same
-same-takes a b m n h k e = same-lengths (take m a) (take n b) (λ q. e (sym (length-take-le m a h) ∙ q ∙ length-take-le n b k))
 
 -- what it means
 pub same-true : (a b : List ℕ) → same a b ≡ true → a ≡ b

@@ -9,6 +9,7 @@ pub mod MergeRows
 pub mod NormalFlags
 pub mod NormalMade
 pub mod NormalRows
+pub mod Ones
 pub mod StepHeld
 pub mod StepLaws
 pub mod StepSized

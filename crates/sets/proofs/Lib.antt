@@ -1,4 +1,3 @@
-pub mod Ascents
 pub mod Inserts
 pub mod Laws
 pub mod Unions

@@ -1,5 +1,6 @@
 pub mod Lays
 pub mod Nets
+pub mod Ones
 pub mod Reader
 pub mod RowsIn
 pub mod Scans
