@@ -28,10 +28,10 @@ pub struct Answered {
     pub value: usize,
 }
 
-// The code of the last cell that the type has.
-const LAST: u32 = 65538;
+// The codes of the first cell, and of the last that the type has.
+const FIRST: u32 = rules::FIRST_CELL as u32;
 
-const FORM: u8 = 12;
+const LAST: u32 = FIRST + 65535;
 
 // A code that is too high stands for the last cell, which every call refuses as well.
 fn net(code: u32) -> rules::Net
@@ -44,7 +44,7 @@ fn net(code: u32) -> rules::Net
         0 => rules::Net::Const(rules::Trit::Zero),
         1 => rules::Net::Const(rules::Trit::One),
         2 => rules::Net::Const(rules::Trit::Undef),
-        _ => rules::Net::Cell(rules::Cell((code - 3) as u16)),
+        _ => rules::Net::Cell(rules::Cell((code - FIRST) as u16)),
     }
 }
 
@@ -130,8 +130,11 @@ pub extern "C" fn doorpigeon_add(
 pub extern "C" fn doorpigeon_assume(matrix: matrix::Matrix, target: u32, value: u8) -> matrix::Made
     ensures { λ r. ⌜ r ≡ madeFrom (assumed (min target last) value (given matrix)) ⌝ }
 {
-    if value >= 3 {
-        return matrix::Made { no: FORM, matrix };
+    if value > rules::UNDEF {
+        return matrix::Made {
+            no: rules::FORM,
+            matrix,
+        };
     }
     matrix.assume(net(target), trits::inner::trit(value))
 }

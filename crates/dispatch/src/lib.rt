@@ -23,15 +23,11 @@ ghost use Rattle.rules.specs.Tree.{leaf};
 ghost use Rattle.rules.specs.Trits.{bit, isX};
 ghost use Rattle.tree.specs.Grown.{Grown, Whole};
 
-const CATCH: u8 = 6;
-
-const NODES: u8 = 7;
-
 fn more(count: usize, mask: u8) -> usize
     requires { ⌜ count < rows-max ⌝ }
     ensures { λ r. ⌜ r ≡ bit (isX mask) + count ⌝ }
 {
-    if mask == 2 {
+    if mask == rules::UNDEF {
         return 1 + count;
     }
     count
@@ -98,7 +94,7 @@ fn test_of(m: matrix::Matrix) -> rules::Cell
     let column = column_of(m);
     let at = column.0;
     let net = value[at];
-    rules::Cell(net - 3)
+    rules::Cell(net - rules::FIRST_CELL)
 }
 
 // The nets alone: an arm has the rows of the matrix that it comes of.
@@ -111,7 +107,7 @@ fn set(
     requires { ⌜ (n ≤ columns-max) × (test .0 ≤ cell-max) ⌝ }
     ensures { λ r. ⌜ r ≡ mapTo (swap (cell (test .0)) bit) n value ⌝ }
 {
-    matrix::inner::step::assume_nets(value, n, 3 + test.0, bit)
+    matrix::inner::step::assume_nets(value, n, rules::FIRST_CELL + test.0, bit)
 }
 
 // A matrix without rows has a row without rules in its first slot.
@@ -148,13 +144,13 @@ fn grow(m: matrix::Matrix, store: &mut [u16]) -> Built
         size: zero,
     } = grow(w, store)
     else {
-        return Built::Refused(NODES);
+        return Built::Refused(rules::NODES);
     };
     let at = tree::inner::NODE_RUN * zero;
     let ones = set(value, n, test, 1);
     w.value = ones;
     let Built::Done { root: _, size: one } = grow(w, &mut store[at..]) else {
-        return Built::Refused(NODES);
+        return Built::Refused(rules::NODES);
     };
     tree::inner::join(store, test, zero, one)
 }
@@ -167,7 +163,7 @@ fn build(m: matrix::Matrix, store: &mut [u16]) -> Built
     let used = tree::inner::in_use(store.len());
     let Built::Done { root, size } = grow(m, &mut store[..used]) else {
         tree::inner::clear(&mut store[..used]);
-        return Built::Refused(NODES);
+        return Built::Refused(rules::NODES);
     };
     let at = root.0;
     let e = tree::inner::NODE_RUN * (at + 1);
@@ -210,7 +206,7 @@ fn number(no: u8, m: matrix::Matrix) -> u8
     if catches(m) {
         return 0;
     }
-    CATCH
+    rules::CATCH
 }
 
 // The matrix with its enable as a tree at the front of the store: its root's place and its size, or the number.

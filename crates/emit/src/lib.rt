@@ -23,21 +23,8 @@ pub enum Together {
     Refused(u8),
 }
 
-// The refusals, by the paper's names.
-const NET: u8 = 4;
-
-const WIDTH: u8 = 8;
-
-const OVERLAP: u8 = 9;
-
-const ROOM: u8 = 10;
-
-const FORM: u8 = 12;
-
-// The codes of the first cell, of the last that may be a rule, and of the net that the last mux drives.
-const FIRST_CELL: u16 = 3;
-
-const LAST_CELL: u16 = 3 + rules::CELL_MAX;
+// The codes of the last cell that may be a rule, and of the net that the last mux drives.
+const LAST_CELL: u16 = rules::FIRST_CELL + rules::CELL_MAX;
 
 const LAST_NET: u16 = LAST_CELL + rules::MUX_MAX as u16;
 
@@ -75,19 +62,19 @@ pub fn one_hot(
     ensures { λ r. ⌜ (r ≡ emittedFrom (oneHotAnswer (now (store .entry)) (root .0) (now (outputs .entry)) count (now (table .entry)))) × (now (table .exit) ≡ oneHotAfter (now (store .entry)) (root .0) (now (outputs .entry)) count (now (table .entry))) ⌝ }
 {
     let tree::Checked::Tree(_) = tree::check(store, root) else {
-        return refuse(FORM);
+        return refuse(rules::FORM);
     };
     if !all_between(outputs, 0, LAST_NET) {
-        return refuse(FORM);
+        return refuse(rules::FORM);
     }
     if !evaluate::inner::formed(table, count) {
-        return refuse(FORM);
+        return refuse(rules::FORM);
     }
-    if !all_between(outputs, FIRST_CELL, LAST_CELL) {
-        return refuse(NET);
+    if !all_between(outputs, rules::FIRST_CELL, LAST_CELL) {
+        return refuse(rules::NET);
     }
     if rules::WIDTH_MAX < outputs.len() {
-        return refuse(WIDTH);
+        return refuse(rules::WIDTH);
     }
     let none = [0; 1];
     place(
@@ -118,32 +105,32 @@ pub fn disjoint(
     ensures { λ r. ⌜ (r ≡ emittedFrom (disjointAnswer (now (store .entry)) (root .0) (now (nets .entry)) (now (widths .entry)) (now (bits .entry)) (now (default .entry)) count (now (table .entry)))) × (now (table .exit) ≡ disjointAfter (now (store .entry)) (root .0) (now (nets .entry)) (now (widths .entry)) (now (bits .entry)) (now (default .entry)) count (now (table .entry))) ⌝ }
 {
     let tree::Checked::Tree(_) = tree::check(store, root) else {
-        return refuse(FORM);
+        return refuse(rules::FORM);
     };
     if !updates_between(nets, widths, bits, 0, LAST_NET, LAST_NET) {
-        return refuse(FORM);
+        return refuse(rules::FORM);
     }
     if !all_between(default, 0, LAST_NET) {
-        return refuse(FORM);
+        return refuse(rules::FORM);
     }
     if !evaluate::inner::formed(table, count) {
-        return refuse(FORM);
+        return refuse(rules::FORM);
     }
-    if !updates_between(nets, widths, bits, FIRST_CELL, LAST_CELL, LAST_CELL) {
-        return refuse(NET);
+    if !updates_between(nets, widths, bits, rules::FIRST_CELL, LAST_CELL, LAST_CELL) {
+        return refuse(rules::NET);
     }
     if !all_between(default, 0, LAST_CELL) {
-        return refuse(NET);
+        return refuse(rules::NET);
     }
     if rules::WIDTH_MAX < default.len() {
-        return refuse(WIDTH);
+        return refuse(rules::WIDTH);
     }
     if !updates_wide(nets, widths, bits, default.len()) {
-        return refuse(WIDTH);
+        return refuse(rules::WIDTH);
     }
     let k = tree::inner::NODE_RUN * (root.0 + 1);
     if muxes::inner::some_leaf(&store[..k], false, nets, widths, bits) {
-        return refuse(OVERLAP);
+        return refuse(rules::OVERLAP);
     }
     place(
         store,
@@ -207,19 +194,19 @@ pub fn prefix(store: &[u16], root: rules::Place, outputs: &[u16], enables: &[u16
     ensures { λ r. ⌜ prefixRead r ≡ prefixAnswer (now (store .entry)) (root .0) (now (outputs .entry)) (now (enables .entry)) ⌝ }
 {
     let tree::Checked::Tree(_) = tree::check(store, root) else {
-        return Together::Refused(FORM);
+        return Together::Refused(rules::FORM);
     };
     if !all_between(outputs, 0, LAST_NET) {
-        return Together::Refused(FORM);
+        return Together::Refused(rules::FORM);
     }
     if !all_between(enables, 0, LAST_NET) {
-        return Together::Refused(FORM);
+        return Together::Refused(rules::FORM);
     }
-    if !all_between(outputs, FIRST_CELL, LAST_CELL) {
-        return Together::Refused(NET);
+    if !all_between(outputs, rules::FIRST_CELL, LAST_CELL) {
+        return Together::Refused(rules::NET);
     }
-    if !all_between(enables, FIRST_CELL, LAST_CELL) {
-        return Together::Refused(NET);
+    if !all_between(enables, rules::FIRST_CELL, LAST_CELL) {
+        return Together::Refused(rules::NET);
     }
     let k = tree::inner::NODE_RUN * (root.0 + 1);
     Together::Length(muxes::inner::longest(&store[..k], outputs, enables))
@@ -254,7 +241,7 @@ fn place(
     let size = root.0 + 1;
     let need = size / 2 * value.len();
     if evaluate::inner::room(table.len()) < count + need {
-        return refuse(ROOM);
+        return refuse(rules::ROOM);
     }
     let k = tree::inner::NODE_RUN * size;
     let s = muxes::inner::emit(&store[..k], hot, nets, widths, bits, value, table, count);

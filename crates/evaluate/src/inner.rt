@@ -10,7 +10,7 @@ ghost use Rattle.rules.specs.Emit.{badTable};
 pub const MUX_RUN: usize = 3;
 
 // The code of the net that the first entry drives.
-pub const FIRST_MUX: usize = 3 + rules::CELL_MAX as usize + 1;
+pub const FIRST_MUX: usize = rules::FIRST_CELL as usize + rules::CELL_MAX as usize + 1;
 
 // Entries of a table of n numbers: whole ones, as many as are allowed.
 pub fn room(n: usize) -> usize

@@ -24,12 +24,6 @@ pub enum Value {
     Refused(u8),
 }
 
-// The refusal of a table, a trit or a net that is malformed.
-const FORM: u8 = 12;
-
-// The code of X.
-const UNDEF: u8 = 2;
-
 // Cells up to the last that may stand in a matrix are given; a later one is a mux's.
 const GIVEN: usize = rules::CELL_MAX as usize + 1;
 
@@ -37,13 +31,13 @@ pub fn evaluate(table: &[u16], count: usize, trits: &[u8], asked: rules::Net) ->
     ensures { λ r. ⌜ valueRead r ≡ evaluateAnswer count (now (table .entry)) (now (trits .entry)) (netCode asked) ⌝ }
 {
     if !inner::formed(table, count) {
-        return Value::Refused(FORM);
+        return Value::Refused(rules::FORM);
     }
     if !all_trits(trits) {
-        return Value::Refused(FORM);
+        return Value::Refused(rules::FORM);
     }
     if !driven(asked, count) {
-        return Value::Refused(FORM);
+        return Value::Refused(rules::FORM);
     }
     let mut values = [0; rules::MUX_MAX];
     run_all(table, count, trits, &mut values);
@@ -57,7 +51,7 @@ fn all_trits(trits: &[u8]) -> bool
     let n = given(trits.len());
     let mut i = 0;
     while i < n {
-        if 2 < trits[i] {
+        if rules::UNDEF < trits[i] {
             return false;
         }
         i += 1;
@@ -135,7 +129,7 @@ fn at(trits: &[u8], k: usize) -> u8
     if k < trits.len() {
         return trits[k];
     }
-    UNDEF
+    rules::UNDEF
 }
 
 fn wide(x: u16) -> usize

@@ -1,4 +1,4 @@
-// The recursion of emission, one for both calls, and what a leaf gives.
+// The recursion of emission, one for both calls, and what a leaf gives; the search for leaves that overlap, and the prefix.
 use rules::Cell;
 use tree::inner::Root;
 ghost use Prim.Native.Nat.{ℕ, _+_, _*_, _/_, _<_, _≤_, min};
@@ -7,10 +7,10 @@ ghost use lib.ListN.{getD, length};
 ghost use mathlib.Core.Bool.{cond, true};
 ghost use mathlib.Core.List.{List, [], _∷_, map};
 ghost use mathlib.Core.Path.{_≡_};
-ghost use Rattle.muxes.specs.Leaves.{anyLeaf, hit, twice};
-ghost use Rattle.muxes.specs.Sends.{CanEmit, Joined, Sends, gives, spanBits};
 ghost use Rattle.lists.specs.Lists.{mem};
 ghost use Rattle.lists.specs.Vec.{vec};
+ghost use Rattle.muxes.specs.Leaves.{anyLeaf, hit, twice};
+ghost use Rattle.muxes.specs.Sends.{CanEmit, Joined, Sends, gives, spanBits};
 ghost use Rattle.rules.specs.Bounds.{cell-max, mux-max, mux-run, node-run, rules-max, width-max};
 ghost use Rattle.rules.specs.Closed.{Wide};
 ghost use Rattle.rules.specs.Emit.{appended, disjoint, getElse, oneHot, overlap, updateFor, updatesOf};
@@ -28,7 +28,7 @@ pub struct Sent {
 }
 
 // The one function that adds a mux: it writes entry k, and answers the net that the entry drives.
-pub fn put_mux(table: &mut [u16], k: usize, select: u16, one: u16, zero: u16) -> u16
+fn put_mux(table: &mut [u16], k: usize, select: u16, one: u16, zero: u16) -> u16
     requires { ⌜ (mux-run * (k + 1) ≤ length (now table)) × (k < mux-max) ⌝ }
     ensures { λ r. ⌜ (r ≡ first-mux + k) × (now (table .exit) ≡ appended k (record { select = select; one-arm = one; zero-arm = zero } ∷ []) (now (table .entry))) ⌝ }
 {
@@ -51,7 +51,7 @@ fn join(
     requires { ⌜ (width ≤ width-max) × (mux-run * (k + width) ≤ length (now table)) × (k + width ≤ mux-max) × (test .0 ≤ cell-max) ⌝ }
     ensures { λ r. ⌜ Joined (cell (test .0)) one zero width k (now (table .entry)) (now (table .exit)) r ⌝ }
 {
-    let select = 3 + test.0;
+    let select = rules::FIRST_CELL + test.0;
     let mut nets = [0; rules::WIDTH_MAX];
     let mut i = 0;
     while i < width {

@@ -29,7 +29,7 @@ pub fn undef(pattern: [u8; rules::COLUMNS_MAX], n: usize) -> bool
     ensures { λ r. ⌜ r ≡ allX (take n pattern) ⌝ }
 {
     for i in 0..n {
-        if pattern[i] != 2 {
+        if pattern[i] != rules::UNDEF {
             return false;
         }
     }
@@ -63,7 +63,7 @@ pub fn trits(pattern: [u8; rules::COLUMNS_MAX], len: usize) -> bool
     true
 }
 
-pub fn first_of(value: [u16; rules::COLUMNS_MAX], n: usize, x: u16) -> usize
+fn first_of(value: [u16; rules::COLUMNS_MAX], n: usize, x: u16) -> usize
     requires { ⌜ n ≤ columns-max ⌝ }
     ensures { λ r. ⌜ r ≡ place x (take n value) ⌝ }
 {
@@ -92,7 +92,7 @@ pub fn firsts(value: [u16; rules::COLUMNS_MAX], n: usize) -> [usize; rules::COLU
 fn drops(net: rules::Net, first: u8, mask: u8) -> bool
     ensures { λ r. ⌜ r ≡ drops (netCode net) first mask ⌝ }
 {
-    if mask == 2 {
+    if mask == rules::UNDEF {
         return false;
     }
     match net {
@@ -102,7 +102,7 @@ fn drops(net: rules::Net, first: u8, mask: u8) -> bool
             rules::Trit::Undef => true,
         },
         rules::Net::Cell(_) => {
-            if first == 2 {
+            if first == rules::UNDEF {
                 return false;
             }
             mask != first
@@ -116,7 +116,7 @@ fn takes(net: rules::Net, first: u8, mask: u8) -> u8
     match net {
         rules::Net::Const(_) => first,
         rules::Net::Cell(_) => {
-            if first == 2 {
+            if first == rules::UNDEF {
                 return mask;
             }
             first

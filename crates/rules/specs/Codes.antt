@@ -9,7 +9,7 @@ use lib.Dec.{eqb}
 use Rattle.lists.specs.Bools.{by-bool}
 use Rattle.rules.specs.Bounds.{net-max}
 use Rattle.rules.specs.Nets.{cell, number, isCell, isNet}
-use Rattle.rules.specs.Refuse.{Outcome, FORM, done, refused}
+use Rattle.rules.specs.Refuse.{Outcome, FORM, NET, done, refused}
 use Rattle.rules.specs.declared.Net.{Net}
 use Rattle.rules.specs.declared.Net.the-variants.{Const, Cell}
 use Rattle.rules.specs.declared.Trit.{Trit}
@@ -46,8 +46,9 @@ tritAnswer n = orForm (tritOf n)
 abbrev pub netAnswer : ℕ → Outcome Net
 netAnswer n = orForm (netOf n)
 
+-- a cell past the last mux has no code, and is over 9,999
 abbrev pub codeAnswer : Net → Outcome ℕ
-codeAnswer x = cond (isNet (netCode x)) (done (netCode x)) (refused FORM)
+codeAnswer x = cond (isNet (netCode x)) (done (netCode x)) (refused NET)
 
 -- ---- both ways
 

@@ -13,10 +13,8 @@ ghost use Rattle.rules.specs.Nets.{isName, isNet};
 ghost use Rattle.sets.specs.Insert.{Inserted, moved, spot};
 ghost use Rattle.sets.specs.Sets.{collected, listOf, rulesFrom, wideFrom};
 
-// The codes of the first cell, of the last cell that may be a rule, and of the net that the last mux drives.
-const FIRST_CELL: u16 = 3;
-
-const LAST_NAME: u16 = FIRST_CELL + rules::CELL_MAX;
+// The codes of the last cell that may be a rule, and of the net that the last mux drives.
+const LAST_NAME: u16 = rules::FIRST_CELL + rules::CELL_MAX;
 
 const LAST_NET: u16 = LAST_NAME + rules::MUX_MAX as u16;
 
@@ -50,7 +48,7 @@ pub fn is_net(x: u16) -> bool
 pub fn is_name(x: u16) -> bool
     ensures { λ r. ⌜ r ≡ isName x ⌝ }
 {
-    if x < FIRST_CELL {
+    if x < rules::FIRST_CELL {
         return false;
     }
     x <= LAST_NAME
@@ -103,12 +101,12 @@ pub fn ascending(s: crate::Rules) -> bool
     ensures { λ r. ⌜ r ≡ ascends (cells (listOf s)) ⌝ }
 {
     let n = used(s);
-    let mut low = FIRST_CELL - 1;
+    let mut low = rules::FIRST_CELL - 1;
     let mut i = 0;
     while i < n {
         let x = s.items[i];
         i += 1;
-        if x >= FIRST_CELL {
+        if x >= rules::FIRST_CELL {
             if x <= low {
                 return false;
             }

@@ -1,4 +1,4 @@
-// The printers of the parts, and the readers of the parts.
+// The lines of a tree, and the readers of a matrix: by words, by lines and whole.
 pub mod parse;
 pub mod reader;
 pub mod scan;

@@ -21,12 +21,8 @@ pub struct ReadMade {
     pub matrix: matrix::Matrix,
 }
 
-const ROOM: u8 = 10;
-
-const FORM: u8 = 12;
-
 // The bytes of the longest printed matrix.
-const TEXT_MAX: usize = 4773;
+pub const TEXT_MAX: usize = 4773;
 
 pub fn print(matrix: matrix::Matrix, out: &mut [u8]) -> Printed
     ensures { λ r. ⌜ printedRead r ≡ printAnswer (given matrix) (now (out .entry)) ⌝ }
@@ -39,7 +35,7 @@ pub fn print(matrix: matrix::Matrix, out: &mut [u8]) -> Printed
     let mut text = [0u8; TEXT_MAX];
     let n = print::inner::lines::whole(&mut text, 0, matrix);
     if out.len() < n {
-        return Printed::Refused(ROOM);
+        return Printed::Refused(rules::ROOM);
     }
     print::inner::put::bytes(out, 0, &text[..n]);
     Printed::Done(n)
@@ -51,13 +47,13 @@ pub fn print_tree(store: &[u16], root: rules::Place, out: &mut [u8]) -> Printed
     ensures { λ _. ⌜ now (out .exit) ≡ printTreeAfter (now (store .entry)) (root .0) (now (out .entry)) ⌝ }
 {
     let tree::Checked::Tree(_) = tree::check(store, root) else {
-        return Printed::Refused(FORM);
+        return Printed::Refused(rules::FORM);
     };
     let k = tree::inner::NODE_RUN * (root.0 + 1);
     let mut none = [0u8; 1];
     let need = inner::trees::whole(&store[..k], &mut none);
     if out.len() < need {
-        return Printed::Refused(ROOM);
+        return Printed::Refused(rules::ROOM);
     }
     inner::trees::whole(&store[..k], out);
     Printed::Done(need)

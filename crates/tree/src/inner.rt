@@ -55,11 +55,15 @@ pub fn clear(store: &mut [u16])
 fn number(net: u16) -> u16
     ensures { λ r. ⌜ r ≡ number net ⌝ }
 {
-    if net < 3 { 0 } else { net - 3 }
+    if net < rules::FIRST_CELL {
+        0
+    } else {
+        net - rules::FIRST_CELL
+    }
 }
 
 // Writes a leaf of the first rules, which are net codes, into the first entry.
-pub fn put_leaf(store: &mut [u16], items: [u16; rules::RULES_MAX], count: usize)
+fn put_leaf(store: &mut [u16], items: [u16; rules::RULES_MAX], count: usize)
     requires { ⌜ (count ≤ rules-max) × (node-run ≤ length (now store)) ⌝ }
     ensures { λ _. ⌜ now (store .exit) ≡ leafRun (take count items) ++ drop node-run (now (store .entry)) ⌝ }
 {
@@ -73,7 +77,7 @@ pub fn put_leaf(store: &mut [u16], items: [u16; rules::RULES_MAX], count: usize)
 }
 
 // Writes a branch into the first entry.
-pub fn put_branch(store: &mut [u16], test: Cell, one: usize)
+fn put_branch(store: &mut [u16], test: Cell, one: usize)
     requires { ⌜ (node-run ≤ length (now store)) × (one ≤ nodes-max) ⌝ }
     ensures { λ _. ⌜ now (store .exit) ≡ nodeRun (cell (test .0)) one ++ drop node-run (now (store .entry)) ⌝ }
 {
@@ -84,7 +88,7 @@ pub fn put_branch(store: &mut [u16], test: Cell, one: usize)
 }
 
 // Whether the first k0 numbers and the k1 after them are the same.
-pub fn same_runs(store: &[u16], k0: usize, k1: usize) -> bool
+fn same_runs(store: &[u16], k0: usize, k1: usize) -> bool
     requires { ⌜ k0 + k1 ≤ length (now store) ⌝ }
     ensures { λ r. ⌜ Says r (take k0 (now (store .entry)) ≡ take k1 (drop k0 (now (store .entry)))) ⌝ }
 {
@@ -108,7 +112,7 @@ pub fn leaf(store: &mut [u16], items: [u16; rules::RULES_MAX], count: usize) -> 
     ensures { λ r. ⌜ Grown (leaf (take count items)) (now (store .entry)) (now (store .exit)) r ⌝ }
 {
     if store.len() < NODE_RUN {
-        return Built::Refused(7);
+        return Built::Refused(rules::NODES);
     }
     put_leaf(store, items, count);
     Built::Done {
@@ -132,7 +136,7 @@ pub fn join(store: &mut [u16], test: Cell, zero: usize, one: usize) -> Built
     }
     let k = k0 + k1;
     if store.len() < k + NODE_RUN {
-        return Built::Refused(7);
+        return Built::Refused(rules::NODES);
     }
     put_branch(&mut store[k..], test, one);
     Built::Done {

@@ -25,12 +25,12 @@ pub fn check(store: &[u16], root: Place) -> Checked
 {
     let at = root.0;
     if inner::places(store.len()) <= at {
-        return Checked::Refused(12);
+        return Checked::Refused(rules::FORM);
     }
     let size = at + 1;
     let k = inner::NODE_RUN * size;
     if inner::is_tree(&store[..k]) {
         return Checked::Tree(size);
     }
-    Checked::Refused(12)
+    Checked::Refused(rules::FORM)
 }

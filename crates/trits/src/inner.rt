@@ -20,7 +20,7 @@ pub fn net(x: u16) -> rules::Net
         0 => rules::Net::Const(rules::Trit::Zero),
         1 => rules::Net::Const(rules::Trit::One),
         2 => rules::Net::Const(rules::Trit::Undef),
-        _ => rules::Net::Cell(rules::Cell(x - 3)),
+        _ => rules::Net::Cell(rules::Cell(x - rules::FIRST_CELL)),
     }
 }
 

@@ -25,11 +25,8 @@ pub enum NetCode {
     Refused(u8),
 }
 
-// The refusal of a number that codes nothing.
-const FORM: u8 = 12;
-
 // The code of the net that the last mux drives: no higher number codes a net.
-const LAST: u16 = 3 + rules::CELL_MAX + rules::MUX_MAX as u16;
+const LAST: u16 = rules::FIRST_CELL + rules::CELL_MAX + rules::MUX_MAX as u16;
 
 pub fn trit_of(x: u8) -> TritRead
     ensures { λ r. ⌜ tritRead r ≡ tritAnswer x ⌝ }
@@ -38,7 +35,7 @@ pub fn trit_of(x: u8) -> TritRead
         0 => TritRead::Is(rules::Trit::Zero),
         1 => TritRead::Is(rules::Trit::One),
         2 => TritRead::Is(rules::Trit::Undef),
-        _ => TritRead::Refused(FORM),
+        _ => TritRead::Refused(rules::FORM),
     }
 }
 
@@ -58,7 +55,7 @@ pub fn net_of(x: u16) -> NetRead
     if x <= LAST {
         NetRead::Is(inner::net(x))
     } else {
-        NetRead::Refused(FORM)
+        NetRead::Refused(rules::FORM)
     }
 }
 
@@ -69,7 +66,7 @@ pub fn net_code(n: rules::Net) -> NetCode
     if x <= LAST as u32 {
         NetCode::Is(x as u16)
     } else {
-        NetCode::Refused(FORM)
+        NetCode::Refused(rules::NET)
     }
 }
 

@@ -1,7 +1,8 @@
-use Prim.Native.Nat.{ℕ, min}
+use Prim.Native.Nat.{ℕ, _<_, min}
 use borrow.Author.Needs.{needs}
 use borrow.Author.Tests.{le-ltb, lt-ltb}
 use mathlib.Core.Path.{_∙_, ap, sym}
+use native.Mathlib.Omega.{arith}
 use Rattle.abi.proofs.doorpigeon_assume.Statement.{statement}
 use Rattle.abi.proofs.doorpigeon_assume.Tie as tie
 use Rattle.abi.specs.Plain.{last}
@@ -34,7 +35,7 @@ assume-requires c κs = search needs
 returns-2 : tie.Need-returns-2
 returns-2 c =
     let a = c .before .before .before .before .args in
-    let h = c .before .before .before .if1 .left in
+    let h : a .value < 3 = omega (arith, c .before .before .before .if1 .left) in
     let n = c .before .before .net .ensures in
     let b = c .before .trit .ensures ∙ cut-trit (a .value) h in
     rw (lt-ltb (a .value) 3 h)

@@ -14,39 +14,27 @@ ghost use Rattle.rules.specs.Refuse.{COLUMNS, FORM, NET, ROWS, RULES, SHAPE, re
 ghost use Rattle.rules.specs.Trits.{isTrit};
 use crate::inner::codes;
 
-const FORM: u8 = 12;
-
-const COLUMNS: u8 = 1;
-
-const ROWS: u8 = 2;
-
-const SHAPE: u8 = 3;
-
-const NET: u8 = 4;
-
-const RULES: u8 = 5;
-
 // 12 is tested first; then the lowest that applies.
 pub fn number(form: bool, columns: bool, rows: bool, shape: bool, net: bool, rules: bool) -> u8
     ensures { λ r. ⌜ r ≡ refusal ((FORM, form) ∷ (COLUMNS, columns) ∷ (ROWS, rows) ∷ (SHAPE, shape) ∷ (NET, net) ∷ (RULES, rules) ∷ []) ⌝ }
 {
     if form {
-        return FORM;
+        return rules::FORM;
     }
     if columns {
-        return COLUMNS;
+        return rules::COLUMNS;
     }
     if rows {
-        return ROWS;
+        return rules::ROWS;
     }
     if shape {
-        return SHAPE;
+        return rules::SHAPE;
     }
     if net {
-        return NET;
+        return rules::NET;
     }
     if rules {
-        return RULES;
+        return rules::RULES;
     }
     0
 }
@@ -202,7 +190,7 @@ fn rows_few(m: crate::Matrix) -> bool
     true
 }
 
-pub fn bad_form(m: crate::Matrix) -> bool
+fn bad_form(m: crate::Matrix) -> bool
     ensures { λ r. ⌜ r ≡ badForm (given m) ⌝ }
 {
     let n = columns_used(m);
@@ -212,25 +200,25 @@ pub fn bad_form(m: crate::Matrix) -> bool
     !rows_formed(m)
 }
 
-pub fn bad_columns(m: crate::Matrix) -> bool
+fn bad_columns(m: crate::Matrix) -> bool
     ensures { λ r. ⌜ r ≡ badColumns (given m) ⌝ }
 {
     m.columns > rules::COLUMNS_MAX
 }
 
-pub fn bad_rows(m: crate::Matrix) -> bool
+fn bad_rows(m: crate::Matrix) -> bool
     ensures { λ r. ⌜ r ≡ badRows (given m) ⌝ }
 {
     m.count > rules::ROWS_MAX
 }
 
-pub fn bad_shape(m: crate::Matrix) -> bool
+fn bad_shape(m: crate::Matrix) -> bool
     ensures { λ r. ⌜ r ≡ badShape (given m) ⌝ }
 {
     !rows_shaped(m)
 }
 
-pub fn bad_net(m: crate::Matrix) -> bool
+fn bad_net(m: crate::Matrix) -> bool
     ensures { λ r. ⌜ r ≡ badNet (given m) ⌝ }
 {
     let n = columns_used(m);

@@ -4,13 +4,13 @@ ghost use Prim.Native.Nat.{_<_};
 ghost use Rattle.matrix.specs.Faults.{clipped};
 ghost use Rattle.rules.specs.Nets.{first-mux, isName, over};
 
-const FIRST_CELL: u32 = 3;
+const FIRST_CELL: u32 = rules::FIRST_CELL as u32;
 
 // Of the net that the first mux drives.
 const FIRST_MUX: u32 = FIRST_CELL + rules::CELL_MAX as u32 + 1;
 
 // The first number that codes no net.
-const NO_NET: u16 = 3 + rules::CELL_MAX + rules::MUX_MAX as u16 + 1;
+const NO_NET: u16 = rules::FIRST_CELL + rules::CELL_MAX + rules::MUX_MAX as u16 + 1;
 
 pub fn wide(x: u16) -> u32
     ensures { λ r. ⌜ r ≡ x ⌝ }

@@ -13,17 +13,7 @@ ghost use Rattle.rules.specs.Bounds.{columns-max, rows-max, rules-max};
 ghost use Rattle.rules.specs.Given.{Sized, SizedRows, tooMany};
 ghost use Rattle.rules.specs.Matrix.{Row, alone, joined, merge, mergeRows, union};
 ghost use Rattle.sets.specs.Sets.{listOf};
-
-// How many slots of rows are in use: a count may say more than there are.
-fn used(m: crate::Matrix) -> usize
-    ensures { λ r. ⌜ (r ≤ rows-max) × (r ≡ length (view m .rows)) ⌝ }
-{
-    if m.count < rules::ROWS_MAX {
-        m.count
-    } else {
-        rules::ROWS_MAX
-    }
-}
+use crate::inner::check;
 
 fn share(named: sets::Rules, t: u16, k: usize) -> usize
     ensures { λ r. ⌜ (r ≡ cond (mem t (listOf named)) k 1) × (r ≤ k + 1) ⌝ }
@@ -37,8 +27,8 @@ fn share(named: sets::Rules, t: u16, k: usize) -> usize
 pub fn count_rows(m: crate::Matrix, t: u16, child: crate::Matrix) -> usize
     ensures { λ r. ⌜ r ≡ length (mergeRows t (view child) (view m .rows)) ⌝ }
 {
-    let n = used(m);
-    let k = used(child);
+    let n = check::rows_used(m);
+    let k = check::rows_used(child);
     let mut total = 0;
     let mut i = 0;
     while i < n {
@@ -54,7 +44,7 @@ pub fn count_rows(m: crate::Matrix, t: u16, child: crate::Matrix) -> usize
 fn over(named: sets::Rules, child: crate::Matrix) -> bool
     ensures { λ r. ⌜ r ≡ not (all (λ (c : Row). leb (length (union (listOf named) (c .rules))) rules-max) (view child .rows)) ⌝ }
 {
-    let n = used(child);
+    let n = check::rows_used(child);
     let mut i = 0;
     while i < n {
         let row = child.rows[i];
@@ -82,7 +72,7 @@ fn row_over(row: rows::Row, t: u16, child: crate::Matrix) -> bool
 pub fn too_many(m: crate::Matrix, t: u16, child: crate::Matrix) -> bool
     ensures { λ r. ⌜ r ≡ tooMany (merge t (view m) (view child)) ⌝ }
 {
-    let n = used(m);
+    let n = check::rows_used(m);
     let mut i = 0;
     while i < n {
         let row = m.rows[i];

@@ -43,7 +43,7 @@ fn marks_at(used: bool, mask: u8) -> bool
     if used {
         return true;
     }
-    mask != 2
+    mask != rules::UNDEF
 }
 
 fn mark(
@@ -95,7 +95,7 @@ fn gone(
     made
 }
 
-pub fn strip_rows(mut m: crate::Matrix, gone: [bool; rules::COLUMNS_MAX]) -> crate::Matrix
+fn strip_rows(mut m: crate::Matrix, gone: [bool; rules::COLUMNS_MAX]) -> crate::Matrix
     requires { ⌜ Clean m ⌝ }
     ensures { λ r. ⌜ r ≡ matrixFrom (record { nets = kept (take (m .columns) gone) (view m .nets); rows = map (λ (r : Row). record { pattern = kept (take (m .columns) gone) (r .pattern); rules = r .rules }) (view m .rows) }) ⌝ }
 {

@@ -3,11 +3,11 @@ ghost use mathlib.Core.Bool.{true};
 ghost use mathlib.Core.Path.{_≡_};
 ghost use lib.ListN.{take};
 ghost use Rattle.matrix.specs.Mat.{view as view-of};
+ghost use Rattle.print.specs.Put.{Put, Room};
+ghost use Rattle.print.specs.Texts.{Fits, RowFits, marked as marked-of, rowsText, trits as trits-of};
 ghost use Rattle.rows.specs.Rows.{view};
 ghost use Rattle.rules.specs.Print.{printed, rowLine, ruleText, valueLine, trit as trit-of};
 ghost use Rattle.rules.specs.Refusals.{allLow};
-ghost use Rattle.print.specs.Put.{Put, Room};
-ghost use Rattle.print.specs.Texts.{Fits, RowFits, marked as marked-of, rowsText, trits as trits-of};
 use crate::inner::put;
 
 pub fn names(out: &mut [u8], at: usize, ns: &[u16]) -> usize
@@ -42,7 +42,7 @@ fn marked(out: &mut [u8], at: usize, i: usize, x: u8) -> usize
     put::byte(out, a, mask(x))
 }
 
-pub fn pattern(out: &mut [u8], at: usize, p: &[u8]) -> usize
+fn pattern(out: &mut [u8], at: usize, p: &[u8]) -> usize
     requires { ⌜ Room (now out) at (trits-of (now p)) ⌝ }
     ensures { λ r. ⌜ Put (now (out .entry)) at (trits-of (now (p .entry))) (now (out .exit)) r ⌝ }
 {

@@ -3,13 +3,13 @@ ghost use mathlib.Core.List.{[], _∷_};
 ghost use mathlib.Core.Bool.{true};
 ghost use mathlib.Core.Path.{_≡_};
 ghost use Prim.Native.Nat.{_/_, _<_};
+ghost use Rattle.print.specs.Put.{Put, Room};
+ghost use Rattle.print.specs.Texts.{downs as downs-of, spaced as spaced-of};
 ghost use Rattle.rules.specs.Bounds.{mux-first};
 ghost use Rattle.rules.specs.Codes.{tritCode};
 ghost use Rattle.rules.specs.Nets.{first-mux};
 ghost use Rattle.rules.specs.Print.{digit, digits, net as net-of, nets as nets-of, trit as trit-of};
 ghost use Rattle.rules.specs.Refusals.{allLow};
-ghost use Rattle.print.specs.Put.{Put, Room};
-ghost use Rattle.print.specs.Texts.{downs as downs-of, spaced as spaced-of};
 
 pub fn byte(out: &mut [u8], at: usize, b: u8) -> usize
     requires { ⌜ Room (now out) at (b ∷ []) ⌝ }
@@ -92,7 +92,7 @@ pub fn net(out: &mut [u8], at: usize, n: u16) -> usize
     }
 }
 
-pub fn spaced(out: &mut [u8], at: usize, n: u16) -> usize
+fn spaced(out: &mut [u8], at: usize, n: u16) -> usize
     requires { ⌜ n < first-mux ⌝ }
     requires { ⌜ Room (now out) at (spaced-of n) ⌝ }
     ensures { λ r. ⌜ Put (now (out .entry)) at (spaced-of n) (now (out .exit)) r ⌝ }

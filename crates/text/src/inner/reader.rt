@@ -17,9 +17,6 @@ pub struct Step {
     pub next: usize,
 }
 
-// The refusal of a text, with the line.
-const LINE: u8 = 11;
-
 // How long the first line is, its LF included where it has one.
 pub fn end(s: &[u8]) -> usize
     requires { ⌜ 0 < length (now s) ⌝ }
@@ -39,7 +36,7 @@ pub fn wrong(line: usize) -> crate::ReadMade
     ensures { λ r. ⌜ r ≡ readFrom (readMade (wrong-at line)) ⌝ }
 {
     crate::ReadMade {
-        no: LINE,
+        no: rules::LINE,
         line: line,
         matrix: matrix::inner::blank::none(),
     }

@@ -1,4 +1,4 @@
-// Nets and trits out of a line, loosely: at any place, whatever the line holds.
+// Nets out of a line, loosely: at any place, whatever the line holds.
 ghost use lib.ListN.{drop, getD, length};
 ghost use mathlib.Core.List.{_++_};
 ghost use mathlib.Core.Path.{_≡_};
@@ -48,26 +48,26 @@ fn cell(s: &[u8], at: usize) -> Word
     let b = figure(s, at + 1);
     if 9 < b {
         return Word {
-            code: 3 + a,
+            code: rules::FIRST_CELL + a,
             len: 3,
         };
     }
     let c = figure(s, at + 2);
     if 9 < c {
         return Word {
-            code: 3 + (a * 10 + b),
+            code: rules::FIRST_CELL + (a * 10 + b),
             len: 4,
         };
     }
     let d = figure(s, at + 3);
     if 9 < d {
         return Word {
-            code: 3 + (a * 100 + b * 10 + c),
+            code: rules::FIRST_CELL + (a * 100 + b * 10 + c),
             len: 5,
         };
     }
     Word {
-        code: 3 + (a * 1000 + b * 100 + c * 10 + d),
+        code: rules::FIRST_CELL + (a * 1000 + b * 100 + c * 10 + d),
         len: 6,
     }
 }

@@ -8,6 +8,7 @@ ghost use mathlib.Core.List.{_++_, map};
 ghost use mathlib.Core.Path.{_≡_};
 ghost use Prim.Native.Nat.{_+_, _*_, _≤_, _<_};
 ghost use Rattle.lists.specs.Vec.{vec};
+ghost use Rattle.print.specs.Put.{Put, Room};
 ghost use Rattle.rules.specs.Bounds.{node-run, nodes-max, rules-max};
 ghost use Rattle.rules.specs.Nets.{cell, first-mux};
 ghost use Rattle.rules.specs.Print.{armHead, printedTree, arm as arm-of, indent as indent-of, trit as trit-of};
@@ -15,7 +16,6 @@ ghost use Rattle.rules.specs.Refusals.{allLow};
 ghost use Rattle.rules.specs.Tree.{Tree, leaf as leaf-of};
 ghost use Rattle.rules.specs.Trits.{bit as bit-of};
 ghost use Rattle.text.specs.Longs.{tree-max};
-ghost use Rattle.print.specs.Put.{Put, Room};
 ghost use Rattle.text.specs.Trees.{CanLay, Laid, LeafFits, branchLine, lastRules, ruleEnd};
 ghost use Rattle.tree.specs.Form.{Ends, HasTree};
 
@@ -56,7 +56,7 @@ fn codes(cells: &[u16]) -> [u16; rules::RULES_MAX]
     let mut nets = [0; rules::RULES_MAX];
     let mut i = 0;
     while i < cells.len() {
-        nets[i] = 3 + cells[i];
+        nets[i] = rules::FIRST_CELL + cells[i];
         i += 1;
     }
     nets
@@ -137,7 +137,7 @@ fn arm(store: &[u16], level: usize, net: u16, bit: bool, out: &mut [u8], at: usi
         Root::Leaf(n) => leaf(out, at, level, net, bit, store, n),
         Root::Branch { test, one, zero } => {
             let a = branch(out, at, level, net, bit);
-            let u = 3 + test.0;
+            let u = rules::FIRST_CELL + test.0;
             let b = arm(&store[..zero], level + 1, u, false, out, a);
             arm(&store[..one], level + 1, u, true, out, b)
         }
@@ -162,7 +162,7 @@ pub fn whole(store: &[u16], out: &mut [u8]) -> usize
     match tree::inner::root_of(store) {
         Root::Leaf(n) => alone(store, n, out),
         Root::Branch { test, one, zero } => {
-            let u = 3 + test.0;
+            let u = rules::FIRST_CELL + test.0;
             let a = arm(&store[..zero], 0, u, false, out, 0);
             arm(&store[..one], 0, u, true, out, a)
         }
