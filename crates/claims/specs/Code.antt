@@ -3,11 +3,12 @@
 use Prim.Native.Nat.{ℕ, _+_, _<_, _≤_}
 use mathlib.Core.Bool.{true}
 use mathlib.Core.List.{List}
-use mathlib.Core.Path.{_≡_, refl, sym, ap, ap₂, _∙_, subst}
+use mathlib.Core.Path.{_≡_, refl, sym, ap, ap₂, _∙_}
 use native.Mathlib.Omega.{arith}
 use borrow.Author.Tests.{eqb-false, ltb-false}
 use lib.Dec.{eqb}
 use lib.ListN.{getD, length, take}
+use Rattle.claims.specs.Claims.{first-match, known-stays}
 use Rattle.dispatch.specs.Good.{builtRead}
 use Rattle.emit.specs.Calls.{emittedFrom}
 use Rattle.emit.specs.declared.Emitted.{Emitted}
@@ -29,13 +30,12 @@ use Rattle.rules.specs.Given.{Slots}
 use Rattle.rules.specs.Matrix.{addEnable}
 use Rattle.rules.specs.Meaning.{Knows, Setting, owes}
 use Rattle.rules.specs.Refusals.{oneHotTable, treeIn}
-use Rattle.rules.specs.Refuse.{Outcome, WIDTH, done, orRefused, refusal}
+use Rattle.rules.specs.Refuse.{WIDTH, done, orRefused, refusal}
 use Rattle.rules.specs.Trits.{isTrit}
 use Rattle.rules.specs.declared.Net.{Net}
 use Rattle.rules.specs.declared.Place.{Place}
-use Rattle.tree.specs.declared.Built.{Built}
 use Rattle.tree.specs.declared.Built.the-variants.{Done}
-use Rattle.claims.specs.Claims.{first-match, known-stays}
+use Rattle.tree.specs.declared.Built.{Built}
 
 -- an emission that gives no number gives its value
 sent : (n : ℕ) (a : List ℕ × ℕ) → emittedFrom (orRefused n a) .no ≡ 0 → orRefused n a ≡ done a

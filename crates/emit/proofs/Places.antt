@@ -1,26 +1,26 @@
 -- A tree handed in, and the answer where only the room is left to test. Assumes nothing.
 use Prim.Native.Nat.{ℕ, _+_, _*_, _/_, _≤_, _<_}
 use borrow.Author.Tests.{le-leb, le-ltb, leb-false, leb-true, lt-leb, lt-ltb}
-use lib.Dec.{eqb, leb}
-use lib.ListN.{length, length-append, take}
+use lib.Dec.{eqb, leb, ltb}
+use lib.ListN.{length, take}
 use mathlib.Core.Bool.{Bool, true, false, not, _&&_, _||_}
 use mathlib.Core.List.{List, [], _∷_}
 use mathlib.Core.Option.{Option, some}
-use mathlib.Core.Path.{_≡_, refl, sym, ap, ap₂, _∙_}
+use mathlib.Core.Path.{_≡_, refl, sym, ap, _∙_}
 use native.Mathlib.Nat.{mul-le-mul}
 use native.Mathlib.Omega.{arith}
-use Rattle.muxes.proofs.Splits.{tests-low, tree-fine}
 use Rattle.emit.specs.Calls.{CanPlace, between, emittedFrom, placed, placedAfter, roomNo}
-use Rattle.muxes.specs.Sends.{CanEmit, Sends}
-use Rattle.muxes.specs.declared.inner.Sent.{Sent}
 use Rattle.evaluate.proofs.Turns.{table-room}
 use Rattle.lists.specs.Bools.{by-bool}
 use Rattle.lists.specs.Lists.{all}
 use Rattle.lists.specs.Vec.{vec}
-use Rattle.rules.proofs.Added.{build-plain, emits-length, muxes-are, nets-length}
+use Rattle.muxes.proofs.Splits.{tests-low, tree-fine}
+use Rattle.muxes.specs.Sends.{CanEmit, Sends}
+use Rattle.muxes.specs.declared.inner.Sent.{Sent}
+use Rattle.rules.proofs.Added.{muxes-are, nets-length}
 use Rattle.rules.proofs.Answers.{oneHot-wide}
 use Rattle.rules.proofs.Entries.{in-use-length}
-use Rattle.rules.proofs.Lowers.{added-is, added-length, nets-are}
+use Rattle.rules.proofs.Lowers.{added-is, added-length, needs, nets-are}
 use Rattle.rules.proofs.Tables.{Fine}
 use Rattle.rules.specs.Answers.{added, emission, emissionTable, oneHotAfter, oneHotAnswer, prefixAnswer}
 use Rattle.rules.specs.Bounds.{cell-max, net-max, node-run, nodes-max, width-max}
@@ -103,18 +103,14 @@ module _ (g : Gives) (w : ℕ) (store : List ℕ) (root count : ℕ) (table : Li
   pub need-small : (root + 1) / 2 * w ≤ nodes-max / 2 * width-max
   need-small = let h : (root + 1) / 2 ≤ nodes-max / 2 = omega (arith, root-in) in mul-le-mul h (can .narrow)
 
-  total : length (emitted g tree (inUse count table) .0) ≡ count + muxes w tree
-  unfolding emitted
-  total =
-      let T : List Mux = inUse count table in
-      let e = emits-length g w (length T) tree leaves in
-      ap (λ (p : List Mux × List ℕ). length (p .0)) (build-plain g w tree leaves T) ∙ length-append T (emits g w (length T) tree) ∙ ap₂ _+_ old-long e
+  no-room-is : noRoom g tree count table ≡ ltb (room table) (count + (root + 1) / 2 * w)
+  no-room-is = needs g w (can .wide) tree (tests-low tree good) count table (can .formed) .1 ∙ ap (λ (n : ℕ). ltb (room table) (count + n)) (sym (need-is ∙ muxes-are w tree))
 
   full : room table < count + (root + 1) / 2 * w → noRoom g tree count table ≡ true
-  full h = lt-ltb (room table) (length (emitted g tree (inUse count table) .0)) (omega (arith, h, total, need-is))
+  full h = no-room-is ∙ lt-ltb (room table) (count + (root + 1) / 2 * w) h
 
   fits : count + (root + 1) / 2 * w ≤ room table → noRoom g tree count table ≡ false
-  fits h = le-ltb (room table) (length (emitted g tree (inUse count table) .0)) (omega (arith, h, total, need-is))
+  fits h = no-room-is ∙ le-ltb (room table) (count + (root + 1) / 2 * w) h
 
   -- too little room
   pub place-full : room table < count + (root + 1) / 2 * w → (emittedFrom (refused ROOM) ≡ emittedFrom (placed g store root count table)) × (table ≡ placedAfter g store root count table)
@@ -145,9 +141,9 @@ module _ (g : Gives) (w : ℕ) (store : List ℕ) (root count : ℕ) (table : Li
       let c = can .formed in
       let low = tests-low tree good in
       let N : List ℕ = emitted g tree (inUse count table) .1 in
-      let n : N ≡ netsOf g w count tree = nets-are g w (can .wide) tree low count table c f ∙ ap (λ (k : ℕ). netsOf g w k tree) old-long in
-      let a : added g tree count table ≡ emits g w count tree = added-is g w (can .wide) tree low count table c f ∙ ap (λ (k : ℕ). emits g w k tree) old-long in
-      let l : length (added g tree count table) ≡ muxes w tree = added-length g w (can .wide) tree low count table c f in
+      let n : N ≡ netsOf g w count tree = nets-are g w (can .wide) tree low count table c ∙ ap (λ (k : ℕ). netsOf g w k tree) old-long in
+      let a : added g tree count table ≡ emits g w count tree = added-is g w (can .wide) tree low count table c ∙ ap (λ (k : ℕ). emits g w k tree) old-long in
+      let l : length (added g tree count table) ≡ muxes w tree = added-length g w (can .wide) tree low count table c in
       let i0 : s .nets ≡ vec width-max 0 N = d .nets-are ∙ ap (vec width-max 0) (sym n) in
       let i1 : w ≡ length N = sym (ap length n ∙ nets-length g w count tree leaves) in
       let i2 : s .used ≡ count + length (added g tree count table) = d .used-is ∙ ap (λ (k : ℕ). count + k) (sym l) in

@@ -62,6 +62,13 @@ front-most outs t before (e ∷ es) (suc k) l h =
     let p : disjointAll outs t (before ++ (e ∷ [])) ≡ true = disjoint-less outs t (before ++ (e ∷ [])) (take k es) g in
     rw p (omega (arith, one g))
 
+front-fits : (outs : List ℕ) (t : Tree) (before es : List ℕ) → prefixFrom outs t before es ≤ length es
+unfolding prefixFrom
+front-fits outs t before [] = omega arith
+front-fits outs t before (e ∷ es) =
+    let one = front-fits outs t (before ++ (e ∷ [])) es in
+    by-bool (disjointAll outs t (before ++ (e ∷ []))) (λ p. rw p (omega (arith, one))) (λ p. rw p (omega arith))
+
 some-none : (p : List ℕ → Bool) → ((rs : List ℕ) → p rs ≡ false) → (t : Tree) → someLeaf p t ≡ false
 unfolding someLeaf
 some-none p h (leaf rs) = h rs
@@ -73,3 +80,6 @@ prefix-good outs t es = front-good outs t [] es (ap not (some-none (crowded []) 
 
 pub prefix-most : (outs : List ℕ) (t : Tree) (es : List ℕ) (k : ℕ) → k ≤ length es → disjointAll outs t (take k es) ≡ true → k ≤ prefix outs t es
 prefix-most outs t es k l h = front-most outs t [] es k l h
+
+pub prefix-fits : (outs : List ℕ) (t : Tree) (es : List ℕ) → prefix outs t es ≤ length es
+prefix-fits outs t es = front-fits outs t [] es

@@ -5,7 +5,7 @@ use mathlib.Core.List.{List, []}
 use mathlib.Core.Option.{some}
 use mathlib.Core.Path.{_≡_, refl, sym, ap, ap₂, _∙_}
 use native.Mathlib.Omega.{arith}
-use borrow.Author.Tests.{eq-eqb}
+use borrow.Author.Tests.{eq-eqb, ltb-false}
 use lib.ListN.{getD, length, take}
 use Rattle.lists.specs.Bools.{or-no}
 use Rattle.lists.specs.Lists.{all, mem}
@@ -27,12 +27,12 @@ use Rattle.rules.specs.Closed.{answers}
 use Rattle.rules.specs.Dispatch.{dispatch, peakOf, rawOf}
 use Rattle.rules.specs.Emit.{appended, badTable, emitted, inUse, oneHot}
 use Rattle.rules.specs.Evaluate.{Filling, tritsOf}
-use Rattle.rules.specs.Given.{Given, Slots, view}
+use Rattle.rules.specs.Given.{Given, Slots, badColumns, tooWide, view}
 use Rattle.rules.specs.Matrix.{Matrix, addEnable}
 use Rattle.rules.specs.Meaning.{Knows, Setting, bitAt, owes, value, valueAt, wins}
 use Rattle.rules.specs.Nets.{first-mux, isNet}
-use Rattle.rules.specs.Refusals.{dispatchTable, noRoom, oneHotTable, treeIn}
-use Rattle.rules.specs.Refuse.{FORM, Outcome, ROOM, done, refusal}
+use Rattle.rules.specs.Refusals.{dispatchTable, enableTable, noRoom, oneHotTable, treeIn}
+use Rattle.rules.specs.Refuse.{COLUMNS, FORM, Outcome, ROOM, done, refusal}
 use Rattle.rules.specs.Store.{found, isNone, stored, treeAt, used}
 use Rattle.rules.specs.Tree.{Tests, Tree, depth, eval, fine, size}
 use Rattle.rules.specs.Trits.{isTrit}
@@ -79,9 +79,11 @@ dispatched e g store root n s a =
     }
 
 -- no path of the recursion has more tests than a matrix has columns
-pub few-levels : (e : ℕ) (g : Given) (store : List ℕ) (root n : ℕ) → Slots g → dispatchAnswer e g store ≡ done (root, n) → depth (rawOf (addEnable e (view g))) ≤ columns-max
-few-levels e g store root n s a =
-    omega (arith, rawOf-depth (addEnable e (view g)), distinct-few [] (addEnable e (view g) .nets), dispatched e g store root n s a .taken .width)
+pub few-levels : (e : ℕ) (g : Given) → refusal (enableTable e g) ≡ 0 → depth (rawOf (addEnable e (view g))) ≤ columns-max
+unfolding mem
+few-levels e g h =
+    let wide = or-no (badColumns g) (tooWide (addEnable e (view g))) (none-applies (enableTable e g) h COLUMNS refl) .1 in
+    omega (arith, rawOf-depth (addEnable e (view g)), distinct-few [] (addEnable e (view g) .nets), ltb-false columns-max (length (addEnable e (view g) .nets)) wide)
 
 -- ---- a one-hot emission that answered, of a tree found in a store
 
