@@ -62,6 +62,8 @@ pub(crate) fn codes() {
     one(b"prefix of 1: ", b"13 14", b"13 1");
     one(b"prefix of %10000: ", b"13 14", b"23 10003");
     one(b"prefix, output %10000: ", b"10003", b"");
+    one(b"prefix of %18191: ", b"13 14", b"18194");
+    one(b"prefix, output %18191: ", b"18194", b"");
     one(b"prefix of no net: ", b"13 14", b"1 18195");
     one(b"prefix, output no net: ", b"1 18195", b"");
     prefix(b"prefix, bad tree: ", b"0*9 9 0 1 0*6", 1, b"1", b"1");

@@ -2,8 +2,8 @@
 use crate::numbers;
 use crate::say;
 
-// Numbers of the longest table here.
-const TABLE: usize = 12;
+// Numbers of the longest table here: one entry more than may be used.
+const TABLE: usize = (rules::MUX_MAX + 1) * evaluate::inner::MUX_RUN;
 
 // More bits than a default may have.
 const BITS: usize = rules::WIDTH_MAX + 2;
@@ -20,6 +20,7 @@ fn lower(
     widths: &[usize],
     bits: &[u16],
     default: &[u16],
+    count: usize,
     table: &mut [u16],
 ) {
     let e = emit::disjoint(
@@ -29,7 +30,7 @@ fn lower(
         widths,
         bits,
         default,
-        0,
+        count,
         table,
     );
     say::emitted(e);
@@ -47,7 +48,7 @@ fn tabled(
 ) {
     let mut lent = [0u16; TABLE];
     let n = numbers::fill(table, &mut lent);
-    lower(store, root, nets, widths, bits, default, &mut lent[..n]);
+    lower(store, root, nets, widths, bits, default, 0, &mut lent[..n]);
 }
 
 fn defaulted(
@@ -221,6 +222,15 @@ pub(crate) fn widths() {
         b"0 1",
         b"65535*6",
     );
+    let more = [3usize; 1];
+    wide(
+        b"update of 3 bits: ",
+        b"13",
+        &more,
+        b"4 5 6",
+        b"0 1",
+        b"65535*6",
+    );
     wide(
         b"second update without width: ",
         b"13 14",
@@ -257,6 +267,9 @@ pub(crate) fn nets() {
     );
     one(b"update for 1: ", b"1", b"4 5", b"0 1", b"65535*6");
     one(b"update for %10000: ", b"10003", b"4 5", b"0 1", b"65535*6");
+    one(b"update for %18191: ", b"18194", b"4 5", b"0 1", b"65535*6");
+    one(b"update for no net: ", b"18195", b"4 5", b"0 1", b"65535*6");
+    one(b"bit %18191: ", b"13", b"4 18194", b"0 1", b"65535*6");
     one(b"bit no net: ", b"1", b"4 18195", b"0 1", b"65535*6");
     one(
         b"default bit no net: ",
@@ -273,6 +286,46 @@ pub(crate) fn rooms() {
     one(b"disjoint, one short: ", b"13", b"4 5", b"0 1", b"65535*5");
     one(b"disjoint, and a part: ", b"13", b"4 5", b"0 1", b"65535*7");
     one(b"disjoint, no bits, no room: ", b"", b"", b"", b"");
+}
+
+// The tree of setting 1, one update of two bits, and entries in use.
+fn append(store: &[u16], count: usize, table: &mut [u16]) {
+    let nets = [13u16; 1];
+    let widths = [2usize; 1];
+    let bits = [4u16, 5];
+    let default = [0u16, 1];
+    lower(store, 2, &nets, &widths, &bits, &default, count, table);
+}
+
+fn after(name: &[u8], count: usize, table: &[u8]) {
+    say::text(name);
+    let mut store = [0u16; TREE];
+    let n = numbers::fill(b"1 10 0*7 1 11 0*7 9 0 1 0*6", &mut store);
+    let mut lent = [0u16; TABLE];
+    let k = numbers::fill(table, &mut lent);
+    append(&store[..n], count, &mut lent[..k]);
+}
+
+pub(crate) fn long_tables() {
+    after(b"disjoint, 8,192 entries: ", 8190, b"0*24570 65535*6");
+    after(
+        b"disjoint, 8,192 entries, one short: ",
+        8191,
+        b"0*24573 65535*3",
+    );
+    after(
+        b"disjoint, 8,193 entries, one short: ",
+        8191,
+        b"0*24573 65535*6",
+    );
+}
+
+pub(crate) fn tables() {
+    after(b"disjoint, one in use, full: ", 1, b"3 1 2 65535*6");
+    after(b"disjoint, one in use, short: ", 1, b"3 1 2 65535*5");
+    after(b"disjoint, more in use than there are: ", 2, b"0*3");
+    after(b"disjoint, 2^64 - 1 in use: ", 18446744073709551615, b"0*3");
+    after(b"disjoint, select driven by itself: ", 1, b"10003 1 0 0*6");
 }
 
 // A tree that is malformed is 12 before a constant target.

@@ -1,4 +1,5 @@
 // A chain as deep as a store lets it be: its check, its muxes and its text.
+use crate::handed;
 use crate::numbers;
 use crate::say;
 
@@ -61,7 +62,7 @@ fn build(store: &mut [u16], depth: u16) {
 
 fn size(name: &[u8], store: &[u16], root: usize) {
     say::text(name);
-    say::checked(tree::check(store, rules::Place(root)));
+    handed::check_in(store, root);
 }
 
 fn entry(table: &[u16], k: usize) {

@@ -5,10 +5,10 @@ use crate::say;
 // Numbers of the largest tree here.
 const TREE: usize = 7 * tree::inner::NODE_RUN;
 
-// Bytes of a text here.
-const TEXT: usize = 64;
+// More than the texts shown here have.
+const TEXT: usize = 100;
 
-fn check_in(store: &[u16], root: usize) {
+pub(crate) fn check_in(store: &[u16], root: usize) {
     say::checked(tree::check(store, rules::Place(root)));
 }
 
@@ -17,7 +17,7 @@ fn print_in(store: &[u16], root: usize, out: &mut [u8]) {
     say::printed(p, out);
 }
 
-fn print_to(store: &[u16], root: usize) {
+pub(crate) fn print_to(store: &[u16], root: usize) {
     let mut out = [0u8; TEXT];
     print_in(store, root, &mut out);
 }

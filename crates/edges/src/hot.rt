@@ -125,6 +125,7 @@ pub(crate) fn long_tables() {
 pub(crate) fn tables() {
     one(b"more in use than there are: ", b"", 2, b"0*3");
     one(b"more in use than whole entries: ", b"", 2, b"0*5");
+    one(b"2^64 - 1 in use: ", b"", 18446744073709551615, b"0*3");
     one(b"select driven by itself: ", b"", 1, b"10003 1 0");
     one(b"one arm driven later: ", b"", 2, b"0 10004 0*4");
     one(b"zero arm driven by none: ", b"", 1, b"0*2 18194");

@@ -45,6 +45,8 @@ fn disjoints() {
     apart::widths();
     apart::nets();
     apart::rooms();
+    apart::tables();
+    apart::long_tables();
     apart::trees();
 }
 

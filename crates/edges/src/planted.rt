@@ -1,4 +1,5 @@
 // Settings 1 to 9: dispatch, the store it leaves, and the tree's text; then the store's lengths, and which number comes first.
+use crate::handed;
 use crate::numbers;
 use crate::say;
 
@@ -9,9 +10,6 @@ const STORE: usize = 1100 * RUN + 5;
 
 // What stands in a store before: a number that no tree has.
 const OLD: u16 = 65535;
-
-// More than the texts of the settings' trees have.
-const TEXT: usize = 100;
 
 // The codes of the enables: the constants 1 and X, and %5.
 const ON: u16 = 1;
@@ -41,16 +39,10 @@ fn entries(store: &[u16], size: usize) {
     }
 }
 
-fn tree_text(store: &[u16], root: rules::Place) {
-    let mut out = [0u8; TEXT];
-    let p = text::print_tree(store, root, &mut out);
-    say::printed(p, &out);
-}
-
 fn grown(store: &[u16], root: rules::Place, size: usize) {
     say::built(root, size);
     entries(store, size);
-    tree_text(store, root);
+    handed::print_to(store, root.0);
 }
 
 fn refused(store: &[u16], no: u8) {
@@ -252,6 +244,7 @@ pub(crate) fn more_orders() {
     rowed(b"no catch-all, no trit: ", 3, 1);
     rowed(b"no trit, pattern of 17: ", 3, 17);
     ruled(b"no catch-all, constant rule: ", 1, 1);
+    ruled(b"no catch-all, rule %10000: ", 10003, 1);
     ruled(b"no catch-all, 8 rules: ", 13, 8);
     ruled(b"no catch-all, count of 9 rules: ", 13, 9);
     ruled(b"no catch-all, rules not ascending: ", 15, 2);

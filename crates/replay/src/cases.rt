@@ -81,7 +81,7 @@ fn enable(
     at
 }
 
-// The tree of the last dispatch, into 1,024 entries, is what the lines after it ask about.
+// What is refused is refused in 1,025 entries too. The tree of the last dispatch, into 1,024, is what the lines after it ask about.
 fn dispatch(
     s: &[u8],
     at: usize,
@@ -92,7 +92,7 @@ fn dispatch(
 ) -> Grown {
     if parse::byte(s, at) == b'R' {
         let r = parse::number(s, parse::letter(s, at, b'R'));
-        let right = ask::refused(given, enable, rules::NODES_MAX, r.value, store);
+        let right = ask::refused(given, enable, rules::NODES_MAX + 1, r.value, store);
         tally::mark(tally, tally::REFUSED, b'R', right);
         return Grown {
             at: parse::end(s, r.at),

@@ -12,15 +12,18 @@ mod updates;
 const FILE_MAX: usize = 425984;
 
 // Room for the longest text of a matrix or of a tree.
-const TEXT_MAX: usize = 65536;
+const TEXT_ROOM: usize = 65536;
 
 // Room for the longest list of nets.
 const LIST_MAX: usize = rules::ROWS_MAX * rules::RULES_MAX;
 
+// One entry more than may be used.
+const STORE: usize = tree::inner::NODE_RUN * (rules::NODES_MAX + 1);
+
 fn main() {
     let mut file = [0u8; FILE_MAX];
-    let mut out = [0u8; TEXT_MAX];
-    let mut store = [0u16; tree::inner::NODE_RUN * rules::NODES_MAX];
+    let mut out = [0u8; TEXT_ROOM];
+    let mut store = [0u16; STORE];
     let mut table = [0u16; evaluate::inner::MUX_RUN * rules::MUX_MAX];
     let mut outputs = [0u16; LIST_MAX];
     let mut list = [0u16; LIST_MAX];

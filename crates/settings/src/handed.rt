@@ -4,9 +4,6 @@ use crate::bench;
 use crate::calls;
 use crate::say;
 
-// The bytes of the longest printed matrix.
-const TEXT_MAX: usize = 4773;
-
 // The largest count that a slot for one can hold.
 const MOST: usize = 18446744073709551615;
 
@@ -29,7 +26,7 @@ fn base() -> matrix::Matrix {
 }
 
 fn printed(m: matrix::Matrix) -> usize {
-    let mut out = [0u8; TEXT_MAX];
+    let mut out = [0u8; say::TEXT_MAX];
     match text::print(m, &mut out) {
         text::Printed::Done(_) => 0,
         text::Printed::Refused(no) => no as usize,

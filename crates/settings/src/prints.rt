@@ -1,9 +1,6 @@
 // `print`: the room it needs, and the bytes that it leaves as they were.
 use crate::say;
 
-// The bytes of the longest printed matrix.
-const TEXT_MAX: usize = 4773;
-
 pub(crate) fn all() {
     exact();
     short();
@@ -103,7 +100,7 @@ fn longest() -> matrix::Matrix {
 
 // What was printed is read again.
 fn longest_exact() {
-    let mut out = [b'#'; TEXT_MAX];
+    let mut out = [b'#'; say::TEXT_MAX];
     let m = longest();
     put(b"print of the longest into 4773 bytes:", m, &mut out);
     let r = text::read(&out);
@@ -120,7 +117,7 @@ fn byte(label: &[u8], b: u8) {
 }
 
 fn longest_short() {
-    let mut out = [b'#'; TEXT_MAX - 1];
+    let mut out = [b'#'; say::TEXT_MAX - 1];
     put(
         b"print of the longest into 4772 bytes:",
         longest(),
@@ -131,7 +128,7 @@ fn longest_short() {
 }
 
 fn longest_longer() {
-    let mut out = [b'#'; TEXT_MAX + 1];
+    let mut out = [b'#'; say::TEXT_MAX + 1];
     put(
         b"print of the longest into 4774 bytes:",
         longest(),

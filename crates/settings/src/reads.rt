@@ -1,11 +1,8 @@
-// `read`: what reads, and prints back to itself. The helper of every text is here.
+// `read`: what reads, and prints back to itself. Here too: the loop over labelled texts, which `wrong` runs as well.
 ghost use Prim.Native.Nat.{_≤_};
 ghost use lib.ListN.{length};
 use crate::same;
 use crate::say;
-
-// The bytes of the longest printed matrix.
-const TEXT_MAX: usize = 4773;
 
 // The bytes after a label and after a text.
 const LABEL: u8 = 1;
@@ -61,7 +58,7 @@ fn compared(out: &[u8], n: usize, s: &[u8]) {
 
 // Whether a matrix prints as the text.
 fn again(m: matrix::Matrix, s: &[u8]) {
-    let mut out = [0u8; TEXT_MAX];
+    let mut out = [0u8; say::TEXT_MAX];
     match text::print(m, &mut out) {
         text::Printed::Done(n) => compared(&out, n, s),
         text::Printed::Refused(no) => say::next(no as usize),

@@ -4,7 +4,7 @@ use crate::same;
 const OUT: i32 = 1;
 
 // The bytes of the longest printed matrix.
-const TEXT_MAX: usize = 4773;
+pub(crate) const TEXT_MAX: usize = 4773;
 
 pub(crate) fn text(s: &[u8]) {
     io::write_all(OUT, s);

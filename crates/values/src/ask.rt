@@ -1,11 +1,11 @@
 // A net asked of a table, and what the evaluator answers: a line.
 const OUT: i32 = 1;
 
-fn text(s: &[u8]) {
+pub(crate) fn text(s: &[u8]) {
     io::write_all(OUT, s);
 }
 
-fn trit(t: rules::Trit) {
+pub(crate) fn trit(t: rules::Trit) {
     match t {
         rules::Trit::Zero => text(b"0\n"),
         rules::Trit::One => text(b"1\n"),
@@ -13,10 +13,14 @@ fn trit(t: rules::Trit) {
     }
 }
 
+pub(crate) fn number(n: u64) {
+    io::print_decimal(OUT, n);
+    text(b"\n");
+}
+
 pub(crate) fn refused(no: u8) {
     text(b"refused ");
-    io::print_decimal(OUT, no as u64);
-    text(b"\n");
+    number(no as u64);
 }
 
 fn answer(v: evaluate::Value) {

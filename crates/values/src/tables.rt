@@ -24,6 +24,7 @@ fn formed(name: &[u8], table: &[u16], count: usize) {
 pub(crate) fn counts() {
     formed(b"more in use: ", &[0, 0, 0], 2);
     formed(b"more in use than whole: ", &[0, 0, 0, 0, 0], 2);
+    formed(b"2^64 - 1 in use: ", &[0, 0, 0], 18446744073709551615);
 }
 
 pub(crate) fn operands() {
