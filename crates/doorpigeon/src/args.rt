@@ -1,7 +1,6 @@
 // What the program is asked, from its arguments.
-ghost use Prim.Native.Nat.{_≤_};
-ghost use lib.ListN.{length};
 use crate::show;
+use crate::words;
 
 // The commands.
 pub const NONE: u8 = 0;
@@ -27,10 +26,11 @@ pub const MERGE: u8 = 9;
 // The letter of the option whose value is the next argument, 0 where none waits.
 const NO: u8 = 0;
 
-// Files by the places of their arguments, 0 where there is none; nets by their codes.
+// Words and files by the places of their arguments, 0 where there is none; nets by their codes; e, s and v where the option was given.
 pub struct Asked {
     pub wrong: bool,
     pub command: u8,
+    word: usize,
     pub first: usize,
     pub second: usize,
     pub third: usize,
@@ -38,176 +38,9 @@ pub struct Asked {
     pub enable: u16,
     pub numbers: usize,
     waits: u8,
-}
-
-// Whether a word is a number, and the number; any over the last is the last.
-struct Number {
-    fine: bool,
-    value: u32,
-}
-
-// Whether a word is a net, and its code.
-struct Named {
-    fine: bool,
-    code: u16,
-}
-
-const LAST: u32 = 65536;
-
-// The last number of a cell that the net of a mux has.
-const LAST_CELL: u32 = rules::CELL_MAX as u32 + rules::MUX_MAX as u32;
-
-fn digit(b: u8) -> u32 {
-    if b < b'0' {
-        return 10;
-    }
-    if b > b'9' {
-        return 10;
-    }
-    (b - b'0') as u32
-}
-
-fn grown(n: u32, d: u32) -> u32 {
-    if d > 9 {
-        return LAST;
-    }
-    if n >= LAST / 10 {
-        return LAST;
-    }
-    10 * n + d
-}
-
-fn number_of(w: &[u8]) -> Number {
-    let wrong = Number {
-        fine: false,
-        value: 0,
-    };
-    if w.len() == 0 {
-        return wrong;
-    }
-    if w.len() > 1 {
-        if w[0] == b'0' {
-            return wrong;
-        }
-    }
-    let mut n = 0;
-    let mut i = 0;
-    while i < w.len() {
-        let d = digit(w[i]);
-        if d > 9 {
-            return wrong;
-        }
-        n = grown(n, d);
-        i += 1;
-    }
-    Number {
-        fine: true,
-        value: n,
-    }
-}
-
-fn found(code: u16) -> Named {
-    Named { fine: true, code }
-}
-
-// A cell over 9,999 is a net all the same: the calls refuse it.
-fn net_of(w: &[u8]) -> Named {
-    let wrong = Named {
-        fine: false,
-        code: 0,
-    };
-    if check::same(w, b"0") {
-        return found(0);
-    }
-    if check::same(w, b"1") {
-        return found(1);
-    }
-    if check::same(w, b"X") {
-        return found(2);
-    }
-    if w.len() == 0 {
-        return wrong;
-    }
-    if w[0] != b'%' {
-        return wrong;
-    }
-    let n = number_of(&w[1..]);
-    if !n.fine {
-        return wrong;
-    }
-    let k = n.value;
-    if k > LAST_CELL {
-        return wrong;
-    }
-    found(3 + k as u16)
-}
-
-// The first place of a byte from `at` on, or the end.
-fn find(s: &[u8], at: usize, b: u8) -> usize
-    requires { ⌜ at ≤ length (now s) ⌝ }
-    ensures { λ r. ⌜ (at ≤ r) × (r ≤ length (now (s .entry))) ⌝ }
-{
-    let mut i = at;
-    while i < s.len() {
-        if s[i] == b {
-            return i;
-        }
-        i += 1;
-    }
-    i
-}
-
-fn trit(b: u8) -> u8 {
-    match b {
-        b'0' => 0,
-        b'1' => 1,
-        b'X' => 2,
-        _ => 3,
-    }
-}
-
-fn set(trits: &mut [u8], code: u16, t: u8) -> bool {
-    if code < 3 {
-        return false;
-    }
-    let k = (code - 3) as usize;
-    if k >= trits.len() {
-        return false;
-    }
-    trits[k] = t;
-    true
-}
-
-// One part of a setting, as %3=X.
-fn set_part(part: &[u8], trits: &mut [u8]) -> bool {
-    let p = find(part, 0, b'=');
-    let n = net_of(&part[..p]);
-    if !n.fine {
-        return false;
-    }
-    if part.len() != p + 2 {
-        return false;
-    }
-    let t = trit(part[p + 1]);
-    if t == 3 {
-        return false;
-    }
-    set(trits, n.code, t)
-}
-
-fn set_all(s: &[u8], trits: &mut [u8]) -> bool {
-    let mut at = 0;
-    while at < s.len() {
-        let e = find(s, at, b',');
-        if !set_part(&s[at..e], trits) {
-            return false;
-        }
-        if e == s.len() {
-            return true;
-        }
-        at = e + 1;
-    }
-    false
+    e: bool,
+    s: bool,
+    v: bool,
 }
 
 fn refuse(mut asked: Asked, message: &[u8]) -> Asked {
@@ -216,8 +49,20 @@ fn refuse(mut asked: Asked, message: &[u8]) -> Asked {
     asked
 }
 
+fn refuse_word(mut asked: Asked, w: &[u8], message: &[u8]) -> Asked {
+    show::error_of(w, message);
+    asked.wrong = true;
+    asked
+}
+
+fn refuse_command(asked: Asked, message: &[u8]) -> Asked {
+    let mut w = io::buffer();
+    let n = os::arg(asked.word, &mut w);
+    refuse_word(asked, &w[..n], message)
+}
+
 fn enable(mut asked: Asked, w: &[u8]) -> Asked {
-    let n = net_of(w);
+    let n = words::net_of(w);
     if !n.fine {
         return refuse(asked, b"-e wants a net: write -e 1, -e 0, -e X or -e %5");
     }
@@ -226,7 +71,7 @@ fn enable(mut asked: Asked, w: &[u8]) -> Asked {
 }
 
 fn store(mut asked: Asked, w: &[u8]) -> Asked {
-    let n = number_of(w);
+    let n = words::number_of(w);
     if !n.fine {
         return refuse(asked, b"-s wants a number of entries: write -s 1024");
     }
@@ -236,7 +81,7 @@ fn store(mut asked: Asked, w: &[u8]) -> Asked {
 }
 
 fn setting(asked: Asked, w: &[u8], trits: &mut [u8]) -> Asked {
-    if set_all(w, trits) {
+    if words::set_all(w, trits) {
         return asked;
     }
     refuse(
@@ -287,20 +132,74 @@ fn command_of(w: &[u8]) -> u8 {
     NONE
 }
 
-fn begin(mut asked: Asked, w: &[u8]) -> Asked {
-    let c = command_of(w);
-    asked.command = c;
-    if c == NONE {
-        show::help(2);
-        return refuse(asked, b"no such command");
+// Any option may be one of a command still to come, and help is given whatever else is said.
+fn is_used(command: u8, letter: u8) -> bool {
+    match command {
+        NONE | HELP | EVAL => true,
+        TREE | MUXES => letter != b'v',
+        ENABLE => letter == b'e',
+        _ => false,
+    }
+}
+
+// The letter of an option that was given and that the command does not use, 0 where there is none.
+fn unused(asked: Asked) -> u8 {
+    if asked.e {
+        if !is_used(asked.command, b'e') {
+            return b'e';
+        }
+    }
+    if asked.s {
+        if !is_used(asked.command, b's') {
+            return b's';
+        }
+    }
+    if asked.v {
+        if !is_used(asked.command, b'v') {
+            return b'v';
+        }
+    }
+    NO
+}
+
+fn fitting(asked: Asked) -> Asked {
+    match unused(asked) {
+        b'e' => refuse_command(
+            asked,
+            b" does not use -e: it is for enable, tree, muxes and eval",
+        ),
+        b's' => refuse_command(asked, b" does not use -s: it is for tree, muxes and eval"),
+        b'v' => refuse_command(asked, b" does not use -v: it is for eval"),
+        _ => asked,
+    }
+}
+
+fn noted(mut asked: Asked, letter: u8) -> Asked {
+    asked.waits = letter;
+    if letter == b'e' {
+        asked.e = true;
+    } else if letter == b's' {
+        asked.s = true;
+    } else {
+        asked.v = true;
     }
     asked
+}
+
+fn begin(mut asked: Asked, i: usize, w: &[u8]) -> Asked {
+    let c = command_of(w);
+    asked.command = c;
+    asked.word = i;
+    if c == NONE {
+        return refuse_word(asked, w, b": no such command: write doorpigeon help");
+    }
+    fitting(asked)
 }
 
 // The net, the child's file, the parent's file.
 fn merge_word(mut asked: Asked, i: usize, w: &[u8]) -> Asked {
     if asked.first == 0 {
-        let n = net_of(w);
+        let n = words::net_of(w);
         if !n.fine {
             return refuse(asked, b"merge wants a net: write merge %10 CHILD FILE");
         }
@@ -348,17 +247,27 @@ fn is_known(w: &[u8]) -> bool {
     check::same(w, b"-v")
 }
 
+fn is_help(w: &[u8]) -> bool {
+    if check::same(w, b"-h") {
+        return true;
+    }
+    check::same(w, b"--help")
+}
+
 fn word(mut asked: Asked, i: usize, w: &[u8]) -> Asked {
-    let l = letter(w);
-    if is_known(w) {
-        asked.waits = l;
+    if is_help(w) {
+        asked.command = HELP;
         return asked;
     }
+    let l = letter(w);
+    if is_known(w) {
+        return fitting(noted(asked, l));
+    }
     if l != NO {
-        return refuse(asked, b"no such option: write -e NET, -s N or -v SETTING");
+        return refuse_word(asked, w, b": no such option: write doorpigeon help");
     }
     if asked.command == NONE {
-        return begin(asked, w);
+        return begin(asked, i, w);
     }
     if asked.command == MERGE {
         return merge_word(asked, i, w);
@@ -366,13 +275,19 @@ fn word(mut asked: Asked, i: usize, w: &[u8]) -> Asked {
     file(asked, i)
 }
 
-// Nothing is looked at after a wrong one.
+// Nothing is looked at after a wrong one, or after help.
 fn argument(asked: Asked, i: usize, trits: &mut [u8]) -> Asked {
     if asked.wrong {
         return asked;
     }
+    if asked.command == HELP {
+        return asked;
+    }
     let mut w = io::buffer();
     let n = os::arg(i, &mut w);
+    if os::errno() != 0 {
+        return refuse(asked, b"an argument is too long: write at most 4096 bytes");
+    }
     if asked.waits == NO {
         return word(asked, i, &w[..n]);
     }
@@ -406,6 +321,7 @@ pub(crate) fn arguments(trits: &mut [u8]) -> Asked {
     let mut asked = Asked {
         wrong: false,
         command: NONE,
+        word: 0,
         first: 0,
         second: 0,
         third: 0,
@@ -413,6 +329,9 @@ pub(crate) fn arguments(trits: &mut [u8]) -> Asked {
         enable: 1,
         numbers: tree::inner::NODE_RUN * rules::NODES_MAX,
         waits: NO,
+        e: false,
+        s: false,
+        v: false,
     };
     let n = os::arg_count();
     let mut i = 1;

@@ -4,9 +4,10 @@ ghost use Prim.Native.Nat.{_≤_};
 
 mod args;
 mod show;
+mod words;
 
-// Any longer text is refused, at a line that its first bytes have.
-const TEXT_MAX: usize = 8192;
+// How many bytes of a text are read. Any longer one is refused, at a line that they have.
+const READ_MAX: usize = 8192;
 
 const STORE: usize = tree::inner::NODE_RUN * rules::NODES_MAX;
 
@@ -14,14 +15,14 @@ const TABLE: usize = evaluate::inner::MUX_RUN * rules::MUX_MAX;
 
 const TRITS: usize = rules::CELL_MAX as usize + 1;
 
-// Whether a text could be opened, and what the reader made of it.
+// Whether a text could be opened and read, and what the reader made of it.
 struct Opened {
     found: bool,
     read: text::ReadMade,
 }
 
 fn main() {
-    let mut trits = [2u8; TRITS];
+    let mut trits = [rules::UNDEF; TRITS];
     let asked = args::arguments(&mut trits);
     if asked.wrong {
         return;
@@ -41,38 +42,54 @@ fn main() {
     answer(asked, &trits);
 }
 
-// Standard input where no file is named.
-fn open(i: usize) -> i32 {
-    if i == 0 {
-        return 0;
-    }
-    let mut path = io::buffer();
-    let n = os::arg(i, &mut path);
-    if check::same(&path[..n], b"-") {
-        return 0;
-    }
-    let fd = os::open_read(&path[..n]);
+// As libc::read, until the buffer is full or the input ends. A file that was not opened leaves its own errno.
+fn load(fd: i32, buf: &mut [u8]) -> isize {
     if fd < 0 {
-        os::fail(&path[..n]);
-        show::error(b"write the path of a printed matrix, or - for standard input");
+        return -1;
     }
-    fd
+    let mut n = 0;
+    while n < buf.len() {
+        let got = libc::read(fd, &mut buf[n..]);
+        if got < 0 {
+            return -1;
+        }
+        let more = io::count(got, &buf[n..]);
+        if more == 0 {
+            return n as isize;
+        }
+        n += more;
+    }
+    n as isize
 }
 
-fn given(i: usize) -> Opened {
-    let fd = open(i);
-    if fd < 0 {
+fn from(fd: i32, name: &[u8]) -> Opened {
+    let mut buf = [0u8; READ_MAX];
+    let got = load(fd, &mut buf);
+    if got < 0 {
+        show::unread(name);
         return Opened {
             found: false,
             read: text::read(b""),
         };
     }
-    let mut buf = [0u8; TEXT_MAX];
-    let n = io::read_full(fd, &mut buf);
+    let n = io::count(got, &buf);
     Opened {
         found: true,
         read: text::read(&buf[..n]),
     }
+}
+
+// Standard input where no file is named.
+fn given(i: usize) -> Opened {
+    if i == 0 {
+        return from(0, b"standard input");
+    }
+    let mut path = io::buffer();
+    let n = os::arg(i, &mut path);
+    if check::same(&path[..n], b"-") {
+        return from(0, b"standard input");
+    }
+    from(os::open_read(&path[..n]), &path[..n])
 }
 
 // Whether a matrix is there; a refusal is said.

@@ -3,9 +3,6 @@ const OUT: i32 = 1;
 
 const ERROR: i32 = 2;
 
-// The bytes of the longest printed matrix.
-const TEXT_MAX: usize = 4773;
-
 // More than the text of the largest tree that a dispatch gives has.
 const TREE_TEXT_MAX: usize = 131072;
 
@@ -15,6 +12,20 @@ pub(crate) fn error(message: &[u8]) {
     io::write_all(ERROR, b"\n");
 }
 
+pub(crate) fn error_of(word: &[u8], message: &[u8]) {
+    io::write_all(ERROR, b"doorpigeon: ");
+    io::write_all(ERROR, word);
+    io::write_all(ERROR, message);
+    io::write_all(ERROR, b"\n");
+}
+
+// Until os::fail, errno is that of the call that failed.
+pub(crate) fn unread(name: &[u8]) {
+    io::write_all(ERROR, b"doorpigeon: can't read ");
+    os::fail(name);
+    error(b"write the path of a printed matrix, or - for standard input");
+}
+
 pub(crate) fn help(fd: i32) {
     io::write_all(
         fd,
@@ -22,11 +33,11 @@ pub(crate) fn help(fd: i32) {
     );
     io::write_all(
         fd,
-        b"  read              the matrix, printed back\n  normal            the normalized matrix\n  enable            the matrix with the enable added\n  outputs           its outputs, one a line\n  tree              the decision tree\n  muxes             the muxes of all outputs, then the net of each output\n  eval              the value of each output at the setting given by -v\n  merge NET CHILD   FILE merged with the matrix in the file CHILD at NET\n  help              this text\n\n",
+        b"  read              the matrix, printed back\n  normal            the normalized matrix\n  enable            the matrix with the enable added\n  outputs           its outputs, one a line\n  tree              the decision tree\n  muxes             the muxes of all outputs, then the net of each output\n  eval              the value of each output at the setting given by -v\n  merge NET CHILD   FILE merged with the matrix in the file CHILD at NET\n  help, -h, --help  this text\n\n",
     );
     io::write_all(
         fd,
-        b"  -e NET            the enable, 1 if not given: -e %5\n  -s N              entries of the node store, 1024 if not given: -s 100\n  -v SETTING        nets and their values, unknown if not named: -v %0=1,%3=X\n\nA refusal is one line: refused, its number and its name.\n",
+        b"  -e NET            the enable, 1 if not given: -e %5 (enable, tree, muxes, eval)\n  -s N              entries of the node store, 1024 if not given: -s 100 (tree, muxes, eval)\n  -v SETTING        nets and their values, unknown if not named: -v %0=1,%3=X (eval)\n\nA refusal is one line: refused, its number and its name.\n",
     );
 }
 
@@ -59,11 +70,11 @@ pub(crate) fn refused(no: u8) {
 pub(crate) fn refused_line(line: usize) {
     io::write_all(OUT, b"refused 11 LINE line ");
     io::print_decimal(OUT, line as u64);
-    io::write_all(OUT, b"\n");
+    io::write_all(OUT, b" (see README.md, The text of a matrix)\n");
 }
 
 pub(crate) fn matrix(m: matrix::Matrix) {
-    let mut out = [0u8; TEXT_MAX];
+    let mut out = [0u8; text::TEXT_MAX];
     match text::print(m, &mut out) {
         text::Printed::Done(n) => bytes(&out, n),
         text::Printed::Refused(no) => refused(no),

@@ -3,7 +3,6 @@ use mathlib.Core.Path.{sym}
 use Rattle.doorpigeon.proofs.planted.Statement.{statement}
 use Rattle.doorpigeon.proofs.planted.Tie as tie
 use borrow.Author.Needs.{needs}
-use lib.ListN.{length}
 
 least-requires : tie.Need-least-requires
 least-requires c κs = search needs

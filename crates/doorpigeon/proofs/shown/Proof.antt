@@ -1,7 +1,6 @@
 use Rattle.doorpigeon.proofs.shown.Statement.{statement}
 use Rattle.doorpigeon.proofs.shown.Tie as tie
 use borrow.Author.Needs.{needs}
-use lib.ListN.{length}
 use lib.Seq.{length-take-le}
 use mathlib.Core.Path.{sym}
 

@@ -1,7 +1,7 @@
 use mathlib.Core.Path.{_≡_, _∙_, refl}
 use Prim.Native.Nat.{_-_}
-use Rattle.doorpigeon.proofs.args.set_all.Statement.{statement}
-use Rattle.doorpigeon.proofs.args.set_all.Tie as tie
+use Rattle.doorpigeon.proofs.words.set_all.Statement.{statement}
+use Rattle.doorpigeon.proofs.words.set_all.Tie as tie
 use borrow.Author.Needs.{needs}
 use lib.ListN.{length}
 

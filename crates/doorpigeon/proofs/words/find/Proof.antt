@@ -1,6 +1,6 @@
 use Prim.Native.Nat.{_-_, _≤_}
-use Rattle.doorpigeon.proofs.args.find.Statement.{statement}
-use Rattle.doorpigeon.proofs.args.find.Tie as tie
+use Rattle.doorpigeon.proofs.words.find.Statement.{statement}
+use Rattle.doorpigeon.proofs.words.find.Tie as tie
 use borrow.Author.Needs.{needs}
 use lib.ListN.{length}
 

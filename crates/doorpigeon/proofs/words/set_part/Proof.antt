@@ -1,7 +1,6 @@
-use Rattle.doorpigeon.proofs.args.set_part.Statement.{statement}
-use Rattle.doorpigeon.proofs.args.set_part.Tie as tie
+use Rattle.doorpigeon.proofs.words.set_part.Statement.{statement}
+use Rattle.doorpigeon.proofs.words.set_part.Tie as tie
 use borrow.Author.Needs.{needs}
-use lib.ListN.{length}
 use lib.Seq.{length-take-le}
 use mathlib.Core.Path.{sym}
 

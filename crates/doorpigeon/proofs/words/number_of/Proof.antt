@@ -1,6 +1,6 @@
 use Prim.Native.Nat.{_-_}
-use Rattle.doorpigeon.proofs.args.number_of.Statement.{statement}
-use Rattle.doorpigeon.proofs.args.number_of.Tie as tie
+use Rattle.doorpigeon.proofs.words.number_of.Statement.{statement}
+use Rattle.doorpigeon.proofs.words.number_of.Tie as tie
 use borrow.Author.Needs.{needs}
 use lib.ListN.{length}
 
