@@ -40,7 +40,7 @@ fn root() -> PathBuf {
     Path::new(&env::var("CARGO_MANIFEST_DIR").expect("cargo sets CARGO_MANIFEST_DIR")).join("..")
 }
 
-/// The folder named by the variable, else the first place that has the original.
+/// The folder named by the variable, else the repository's, else that of a folder `shared` beside the repository.
 fn original() -> PathBuf {
     if let Some(folder) = env::var_os(VARIABLE) {
         return PathBuf::from(folder);

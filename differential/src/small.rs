@@ -37,7 +37,7 @@ fn rows(patterns: Vec<Vec<Trit>>) -> Vec<Row> {
 }
 
 /// All lists of this length.
-fn lists<T: Clone>(length: usize, from: &[T]) -> Vec<Vec<T>> {
+pub fn lists<T: Clone>(length: usize, from: &[T]) -> Vec<Vec<T>> {
     let mut lists = vec![Vec::new()];
     for _ in 0..length {
         lists = lists.iter().flat_map(|list| from.iter().map(|next| [&list[..], from_ref(next)].concat())).collect();

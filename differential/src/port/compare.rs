@@ -1,7 +1,7 @@
 //! Holds the port's answers against the original's, and against 01's numbers, on one case: subject by subject.
 
 use super::flat::Past;
-use super::{dispatches, drawn, emission, forms, matrices, prefixes, texts, trees, values};
+use super::{brute, dispatches, drawn, emission, forms, matrices, prefixes, texts, trees, values};
 use crate::case::{Row, Tree};
 use crate::kinds::{Counts, Told};
 use crate::random::Random;
@@ -16,9 +16,10 @@ const DRAWN: usize = 20;
 /// Counted beside the subjects, to hold their counts against.
 pub const TREES: &str = "cases with a tree";
 pub const DRAWN_TREES: &str = "other trees handed in";
+pub const BESIDE: [&str; 4] = [TREES, DRAWN_TREES, brute::CASES, brute::UNKNOWN];
 
 /// Everything that is compared, in the order that a run prints.
-pub const SUBJECTS: [&str; 37] = [
+pub const SUBJECTS: [&str; 40] = [
     matrices::NEW,
     matrices::ADD,
     matrices::ADD_REFUSED,
@@ -51,11 +52,14 @@ pub const SUBJECTS: [&str; 37] = [
     prefixes::PREFIX,
     prefixes::NO_OUTPUT,
     prefixes::REFUSED,
+    values::TABLE,
     values::MODEL,
     values::FIRST_ROW,
     values::FILLING,
     values::ANY,
     values::REFUSED,
+    brute::KNOWN,
+    brute::FILLING,
 ];
 
 /// One case as it is put to the port.
@@ -73,6 +77,11 @@ impl Asked<'_> {
         self.counts.add(&[subject]);
         if equal { Ok(()) } else { Err(subject) }
     }
+
+    /// Counts something that is no comparison.
+    pub fn count(&mut self, what: &'static str) {
+        self.counts.add(&[what]);
+    }
 }
 
 /// The first subject on which something differs.
@@ -89,12 +98,12 @@ fn of_case(asked: &mut Asked) -> Held {
     let tree = asked.told.answer.is_ok().then(|| original::tree(case));
     dispatches::hold(asked, tree.as_ref())?;
     if let Some(tree) = &tree {
-        asked.counts.add(&[TREES]);
+        asked.count(TREES);
         of_tree(asked, tree, &original::outputs(&case.matrix))?;
         values::hold(asked, tree)?;
     }
     if asked.random.chance(DRAWN) {
-        asked.counts.add(&[DRAWN_TREES]);
+        asked.count(DRAWN_TREES);
         let tree = drawn::tree(asked.random);
         let named = Row::new(vec![], tree.leaves().concat()).rules;
         of_tree(asked, &tree, &named)?;

@@ -1,38 +1,42 @@
 //! The evaluator over the muxes of a one-hot emission: against the model's, and against the matrix's first matching row.
 
+use super::brute;
 use super::compare::{Asked, Held};
 use super::flat::{codes, trit};
 use super::foreign::{self, Answered};
 use super::handed::{self, MUX_RUN};
 use super::store::{self, RUN};
 use super::tables;
-use crate::case::{Case, Emission, FIRST_MUX, MUXES_MAX, Matrix, Row, Tree, WIDTH_MAX};
+use crate::case::{Case, Emission, FIRST_MUX, Matrix, Row, Tree};
 use crate::random::Random;
-use crate::refuse::FORM;
+use crate::refuse::{self, FORM};
 use crate::{Net, Trit, model, original};
 
+pub const TABLE: &str = "evaluate, the table emitted";
 pub const MODEL: &str = "evaluate";
 pub const FIRST_ROW: &str = "evaluate, first matching row";
 pub const FILLING: &str = "evaluate, a filling";
 pub const ANY: &str = "evaluate, any table";
 pub const REFUSED: &str = "evaluate, refused";
 
-const UNDEF: u8 = 2;
+pub const UNDEF: u8 = 2;
 const GIVEN: usize = FIRST_MUX as usize;
 
 /// The port's muxes for a case's outputs.
-struct Table {
+pub struct Table {
     numbers: Vec<u16>,
     used: usize,
     emission: Emission,
 }
 
-/// Every output at a 0/1 setting, at one that is partly unknown, and at a filling of that one.
+/// Every output at every setting of few cells, and of any number at settings drawn: one of 0 and 1, one that is partly
+/// unknown, and a filling of that one.
 pub fn hold(asked: &mut Asked, tree: &Tree) -> Held {
     let case = &asked.told.case;
     let outputs = original::outputs(&case.matrix);
-    let Some(table) = table(tree, &outputs) else { return Ok(()) };
+    let Some(table) = table(asked, tree, &outputs)? else { return Ok(()) };
     let enabled = original::enabled(case);
+    brute::hold(asked, &table, &enabled, &outputs)?;
     let cells = cells(case);
     let known = setting(asked.random, cells);
     let first = of_setting(asked, &table, &known)?;
@@ -42,24 +46,23 @@ pub fn hold(asked: &mut Asked, tree: &Tree) -> Held {
     let filling = filling(asked.random, &partly, cells);
     let filled = of_setting(asked, &table, &filling)?;
     asked.hold(FIRST_ROW, filled == by_first_row(&enabled, &outputs, &filling))?;
-    let kept = |(before, after): (&Trit, &Trit)| *before == Trit::Undef || before == after;
-    asked.hold(FILLING, unknown.iter().zip(&filled).all(kept))?;
+    asked.hold(FILLING, brute::keeps(&unknown, &filled))?;
     of_any(asked, &partly)?;
     of_others(asked, &table, partly)
 }
 
-/// None where the emission is refused. The numbers are those that the port wrote.
-fn table(tree: &Tree, outputs: &[Net]) -> Option<Table> {
-    let need = tree.size() / 2 * outputs.len();
-    if outputs.len() > WIDTH_MAX || need > MUXES_MAX {
-        return None;
+/// None where 01 refuses the emission. The numbers are those that the port wrote, and must be a table with every output.
+fn table(asked: &mut Asked, tree: &Tree, outputs: &[Net]) -> Result<Option<Table>, &'static str> {
+    if refuse::of_emission(tree, outputs.len()).is_some() {
+        return Ok(None);
     }
     let store = store::numbers(tree);
-    let mut numbers = vec![0; MUX_RUN * need];
+    let mut numbers = vec![0; MUX_RUN * (tree.size() / 2 * outputs.len())];
     let emitted = foreign::one_hot(&store, store.len() / RUN - 1, &codes(outputs), 0, &mut numbers);
+    let muxes = handed::muxes(&numbers, emitted.used);
+    asked.hold(TABLE, emitted.no == 0 && emitted.width == outputs.len() && muxes.is_some())?;
     let value = emitted.nets[..emitted.width].iter().copied().map(handed::net).collect();
-    let muxes = handed::muxes(&numbers, emitted.used)?;
-    Some(Table { numbers, used: emitted.used, emission: Emission { muxes, value } })
+    Ok(muxes.map(|muxes| Table { numbers, used: emitted.used, emission: Emission { muxes, value } }))
 }
 
 /// One more than the highest cell of the value and the enable.
@@ -99,18 +102,20 @@ fn filling(random: &mut Random, partly: &[u8], cells: usize) -> Vec<u8> {
     (0..length).map(filled).collect()
 }
 
-/// Each output's trit by the port, held against the model's.
-fn of_setting(asked: &mut Asked, table: &Table, trits: &[u8]) -> Result<Vec<Trit>, &'static str> {
+/// Each output's trit as the port evaluates it, held against the model's.
+pub fn of_setting(asked: &mut Asked, table: &Table, trits: &[u8]) -> Result<Vec<Trit>, &'static str> {
     let wanted = model::evaluate(&table.emission, |cell| handed::known(trits, cell));
+    let mut given = Vec::new();
     for (&net, &wanted) in table.emission.value.iter().zip(&wanted) {
         let answer = foreign::evaluate(&table.numbers, table.used, trits, net.code());
         asked.hold(MODEL, answer == Answered { no: 0, value: trit(wanted).into() })?;
+        given.push([Trit::Zero, Trit::One, Trit::Undef][answer.value]);
     }
-    Ok(wanted)
+    Ok(given)
 }
 
 /// An output is 1 where the first row that matches names it; a constant X matches a don't-care only.
-fn by_first_row(enabled: &Matrix, outputs: &[Net], trits: &[u8]) -> Vec<Trit> {
+pub fn by_first_row(enabled: &Matrix, outputs: &[Net], trits: &[u8]) -> Vec<Trit> {
     let value: Vec<Trit> = enabled.value.iter().map(|&net| at(net, trits)).collect();
     let matches = |row: &&Row| row.pattern.iter().zip(&value).all(|(mask, trit)| *mask == Trit::Undef || mask == trit);
     let row = enabled.rows.iter().find(matches);
