@@ -2,8 +2,8 @@
 use borrow.Author.Tests.{le-leb, lt-leb}
 use lib.Dec.{leb}
 use lib.ListN.{drop, drop-of-length-le, getD, length, length-append, length-map, take}
-use lib.Seq.{drop-cons, getD-take, length-take-le, take-all}
-use mathlib.Core.Bool.{_&&_, Bool, cond, false, not, true}
+use lib.Seq.{drop-cons, getD-take}
+use mathlib.Core.Bool.{_&&_, and-assoc, Bool, cond, false, not, true}
 use mathlib.Core.List.{[], _++_, _∷_, append-nil, List, map}
 use mathlib.Core.Path.{_∙_, _≡_, ap, ap₂, refl, sym}
 use native.Mathlib.Numerals.{add-one}
@@ -16,7 +16,7 @@ use Rattle.matrix.specs.declared.Matrix.{Matrix}
 use Rattle.matrix.specs.Mat.{view}
 use Rattle.rows.proofs.Laws.{getD-map, length-take-most}
 use Rattle.rows.specs.Rows as rows
-use Rattle.rules.specs.Bounds.{rows-max, rules-max}
+use Rattle.rules.specs.Bounds.{rules-max}
 use Rattle.rules.specs.Given.{GivenRow, viewRow}
 use Rattle.rules.specs.Matrix.{alone, joined, Matrix as MatrixOf, mergeRows, Row, union}
 use Rattle.sets.specs.declared.Wide.{Wide}
@@ -33,12 +33,6 @@ module _ (m : Matrix) where
 
   length-view : length (view m .rows) ≡ length (take (m .count) slots)
   length-view = length-map (take (m .count) slots) viewRow
-
-  pub used-few : length (m .rows) ≡ rows-max → m .count ≤ rows-max → m .count ≡ length (view m .rows)
-  used-few l h = sym (length-view ∙ length-take-le (m .count) slots (omega (arith, l, length-slots)))
-
-  pub used-full : length (m .rows) ≡ rows-max → rows-max ≤ m .count → rows-max ≡ length (view m .rows)
-  used-full l h = sym (length-view ∙ ap length (take-all (m .count) slots (omega (arith, l, length-slots))) ∙ length-slots ∙ l)
 
   pub view-at : (i : ℕ) → i < length (view m .rows) → getD (view m .rows) i none-row ≡ rows.view (getD (m .rows) i past)
   view-at i h =
@@ -93,11 +87,7 @@ module _ (l : List ℕ) (child : Matrix) (i : ℕ) (w : Wide) (h : i < length (v
 
 pub all-append : (f : Row → Bool) (a b : List Row) → all f (a ++ b) ≡ (all f a && all f b)
 all-append f [] b = refl
-all-append f (x ∷ a) b = ap (λ (c : Bool). f x && c) (all-append f a b) ∙ assoc (f x) (all f a) (all f b)
-  where
-    assoc : (x y z : Bool) → (x && (y && z)) ≡ ((x && y) && z)
-    assoc true y z = refl
-    assoc false y z = refl
+all-append f (x ∷ a) b = ap (λ (c : Bool). f x && c) (all-append f a b) ∙ sym (and-assoc (f x) (all f a) (all f b))
 
 all-joined : (r : Row) (cs : List Row) → all few (map (joined r) cs) ≡ all (fewWith (r .rules)) cs
 all-joined r [] = refl

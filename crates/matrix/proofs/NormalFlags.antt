@@ -3,7 +3,7 @@ use borrow.Author.Tests.{le-leb}
 use lib.Dec.{eqb}
 use lib.ListN.{getD, length, set, take}
 use lib.Seq.{ext-getD, take-all}
-use mathlib.Core.Bool.{_&&_, _||_, Bool, false, not, true}
+use mathlib.Core.Bool.{_&&_, _||_, and-assoc, Bool, false, not, true}
 use mathlib.Core.List.{[], _++_, _∷_, List}
 use mathlib.Core.Path.{_∙_, _≡_, ap, ap₂, refl, sym}
 use native.Mathlib.Nat.{add-zero, le-of-suc-le-suc, not-suc-le-zero}
@@ -61,11 +61,7 @@ x-more [] r j = last (isX (getD (r .pattern) j 2))
     last false = refl
 x-more (q ∷ rs) r j =
     ap (λ (b : Bool). isX (getD (q .pattern) j 2) && b) (x-more rs r j)
-    ∙ sym (assoc (isX (getD (q .pattern) j 2)) (xAt rs j) (isX (getD (r .pattern) j 2)))
-  where
-    assoc : (a b d : Bool) → ((a && b) && d) ≡ (a && (b && d))
-    assoc true b d = refl
-    assoc false b d = refl
+    ∙ sym (and-assoc (isX (getD (q .pattern) j 2)) (xAt rs j) (isX (getD (r .pattern) j 2)))
 
 used-none : (N k : ℕ) (ns : List ℕ) → vec N false [] ≡ vec N false (flagsFrom (used []) k ns)
 unfolding vec flagsFrom xAt

@@ -1,5 +1,4 @@
 -- The struct, its slots and the matrix that it is: there and back. Assumes nothing.
-use Prim.Native.Nat.{ℕ}
 use mathlib.Core.List.{List, [], _∷_, map}
 use mathlib.Core.Path.{_≡_, refl, sym, ap, _∙_, subst}
 use Rattle.rows.specs.Rows as rows

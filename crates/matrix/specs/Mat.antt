@@ -1,6 +1,5 @@
 -- How a struct holds a matrix. Assumes nothing: these are definitions.
-use Prim.Native.Nat.{ℕ}
-use mathlib.Core.List.{List, map}
+use mathlib.Core.List.{map}
 use mathlib.Core.Path.{_≡_}
 use Rattle.rows.specs.Rows as rows
 use Rattle.rules.specs.Answers.{Made as MadeOf}

@@ -9,12 +9,12 @@ use mathlib.Core.List.{List, [], _∷_, _++_, append-assoc, append-nil, map}
 use mathlib.Core.Path.{_≡_, refl, sym, ap, ap₂, _∙_}
 use native.Mathlib.Numerals.{add-one}
 use native.Mathlib.Omega.{arith}
+use Rattle.lists.specs.Bools.{and-left, and-right, by-bool}
+use Rattle.lists.specs.Lists.{mem}
 use Rattle.muxes.specs.Leaves.{anyLeaf, hit}
 use Rattle.muxes.specs.Sends.{spanBits}
 use Rattle.muxes.specs.declared.inner.Span.{Span}
-use Rattle.lists.specs.Bools.{and-left, and-right, by-bool}
-use Rattle.lists.specs.Lists.{mem}
-use Rattle.rules.proofs.Stores.{AllCells, Cells, encode-length, fine-cells, fine-fit}
+use Rattle.rules.proofs.Stores.{AllCells, Cells, cells-back, encode-length, fine-cells, fine-fit}
 use Rattle.rules.specs.Bounds.{node-run, rules-max}
 use Rattle.rules.specs.Emit.{Update, isSome, updateFor, updated}
 use Rattle.rules.specs.Nets.{cell, number}
@@ -22,7 +22,6 @@ use Rattle.rules.specs.Prefix.{among, crowded, disjointAll, hits, prefixFrom}
 use Rattle.rules.specs.Store.{encode, leafRun, nodeRun}
 use Rattle.rules.specs.Tree.{Fit, Tree, fine, leaf, node, size, someLeaf}
 use Rattle.rules.specs.Trits.{bit}
-use Rattle.tree.proofs.Laws.{cells-back}
 
 -- ---- entries and leaves
 

@@ -10,11 +10,11 @@ use mathlib.Core.Option.{Option, none, some}
 use mathlib.Core.Path.{_≡_, refl, sym, ap, ap₂, _∙_}
 use native.Mathlib.Numerals.{add-one}
 use native.Mathlib.Omega.{arith}
-use Rattle.muxes.specs.Sends.{spanBits}
-use Rattle.muxes.specs.declared.inner.Span.{Span}
 use Rattle.evaluate.proofs.Turns.{take-min}
 use Rattle.lists.specs.Bools.{by-bool}
 use Rattle.lists.specs.Vec.{fill, vec}
+use Rattle.muxes.specs.Sends.{spanBits}
+use Rattle.muxes.specs.declared.inner.Span.{Span}
 use Rattle.rules.specs.Bounds.{node-run, width-max}
 use Rattle.rules.specs.Emit.{Update, disjoint, getElse, orElse, updateFor, updatesOf}
 use Rattle.rules.specs.Nets.{cell}

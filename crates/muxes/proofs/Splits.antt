@@ -5,10 +5,10 @@ use mathlib.Core.Bool.{true}
 use mathlib.Core.List.{List, _++_, append-assoc}
 use mathlib.Core.Path.{_≡_, refl, sym, ap, ap₂, _∙_}
 use native.Mathlib.Omega.{arith}
+use Rattle.lists.specs.Vec.{take-vec, vec}
 use Rattle.muxes.proofs.Puts.{appended-more, appended-none}
 use Rattle.muxes.specs.Sends.{Joined, Sends}
 use Rattle.muxes.specs.declared.inner.Sent.{Sent}
-use Rattle.lists.specs.Vec.{take-vec, vec}
 use Rattle.rules.proofs.Added.{emits-length, nets-length}
 use Rattle.rules.proofs.Answers.{fine-of}
 use Rattle.rules.proofs.Stores.{fine-one, fine-zero}

@@ -1,6 +1,6 @@
 -- The texts of numbers, nets and trits as their printers put them together. Assumes nothing.
-use Prim.Native.Nat.{ℕ, zero, suc, _+_, _-_, _/_, _%_, _≤_, _<_}
-use borrow.Author.Tests.{eq-eqb, le-leb, le-ltb, lt-ltb, ltb-false, ne-eqb}
+use Prim.Native.Nat.{ℕ, zero, suc, _+_, _-_, _%_, _≤_, _<_}
+use borrow.Author.Tests.{eq-eqb, le-leb, ltb-false, ne-eqb}
 use lib.Dec.{eqb, ltb}
 use lib.ListN.{drop, drop-of-length-le, getD, length, take}
 use lib.Seq.{drop-cons, take-length, take-suc}
@@ -11,37 +11,17 @@ use native.Mathlib.Numerals.{add-one}
 use native.Mathlib.Omega.{arith}
 use Rattle.lists.specs.Bools.{and-left, and-right, by-bool}
 use Rattle.lists.specs.Lists.{all}
+use Rattle.print.specs.Put.{Room}
+use Rattle.print.specs.Texts.{downs, marked, spaced, trits}
 use Rattle.rules.proofs.Accepts.{not-over}
 use Rattle.rules.proofs.Digits.{net-cell}
 use Rattle.rules.specs.Bytes.{byte, bytes}
 use Rattle.rules.specs.Codes.{tritCode}
 use Rattle.rules.specs.Nets.{cell, first-mux, isCell, number, over}
-use Rattle.rules.specs.Print.{digit, digits, gap, grouped, net, nets, ruleText, trit}
-use Rattle.rules.specs.declared.Trit.{Trit}
+use Rattle.rules.specs.Print.{digits, gap, grouped, net, nets, ruleText, trit}
 use Rattle.rules.specs.declared.Trit.the-variants.{Zero, One, Undef}
+use Rattle.rules.specs.declared.Trit.{Trit}
 use Rattle.trits.specs.Codes.{cut}
-use Rattle.print.specs.Put.{Room}
-use Rattle.print.specs.Texts.{downs, marked, spaced, trits}
-
-module _ (n : ℕ) where
-  pub digits-1 : n < 10 → digits n ≡ digit n ∷ []
-  unfolding digits
-  digits-1 h = simp (lt-ltb _ _ h)
-
-  pub digits-2 : 10 ≤ n → n < 100 → digits n ≡ digit (n / 10) ∷ digit n ∷ []
-  unfolding digits
-  digits-2 l h = simp (le-ltb _ _ l, lt-ltb _ _ h)
-
-  pub digits-3 : 100 ≤ n → n < 1000 → digits n ≡ digit (n / 100) ∷ digit (n / 10) ∷ digit n ∷ []
-  unfolding digits
-  digits-3 l h = let k : 10 ≤ n = omega arith in simp (le-ltb _ _ k, le-ltb _ _ l, lt-ltb _ _ h)
-
-  pub digits-4 : 1000 ≤ n → digits n ≡ digit (n / 1000) ∷ digit (n / 100) ∷ digit (n / 10) ∷ digit n ∷ []
-  unfolding digits
-  digits-4 l =
-      let k : 10 ≤ n = omega arith in
-      let j : 100 ≤ n = omega arith in
-      simp (le-ltb _ _ k, le-ltb _ _ j, le-ltb _ _ l)
 
 -- ---- nets
 

@@ -9,25 +9,26 @@ use mathlib.Core.List.{List, [], _∷_, _++_, map}
 use mathlib.Core.Path.{_≡_, refl, sym, ap, _∙_}
 use native.Mathlib.Nat.{zero-add}
 use native.Mathlib.Omega.{arith}
-use Rattle.lists.specs.Bools.{and-both, and-left, and-right, clash}
+use Rattle.lists.specs.Bools.{and-left, and-right, clash}
 use Rattle.lists.specs.Lists.{all, mem}
 use Rattle.matrix.specs.Mat as mat
 use Rattle.matrix.specs.declared.Matrix.{Matrix}
+use Rattle.print.specs.Put.{Put, putAt}
+use Rattle.print.specs.Texts.{Fits, RowsFit}
 use Rattle.rows.specs.Rows as rows
 use Rattle.rows.specs.declared.Row.{Row}
 use Rattle.rules.proofs.Goods.{good-view}
 use Rattle.rules.proofs.Longest.{printed-length, text-max}
 use Rattle.rules.proofs.Picks.{none-applies}
+use Rattle.rules.proofs.Words.{names-low}
 use Rattle.rules.specs.Answers.{printAfter, printAnswer}
 use Rattle.rules.specs.Bounds.{columns-max, rows-max, rules-max}
 use Rattle.rules.specs.Given.{Given, GivenRow, Slots, badColumns, badForm, badNet, badRows, badRules, badShape, matrixTable, view, viewRow}
 use Rattle.rules.specs.Matrix.{Row as RowOf}
-use Rattle.rules.specs.Nets.{isCell, isName, over}
+use Rattle.rules.specs.Nets.{isName, over}
 use Rattle.rules.specs.Print.{printed}
 use Rattle.rules.specs.Refusals.{printTable}
 use Rattle.rules.specs.Refuse.{Table, COLUMNS, FORM, NET, ROOM, ROWS, RULES, SHAPE, done, refusal, refused}
-use Rattle.print.specs.Put.{Put, putAt}
-use Rattle.print.specs.Texts.{Fits, RowsFit}
 
 -- ---- the number: the check's, and else the room
 
@@ -81,13 +82,6 @@ module _ (g : Given) (out : List ℕ) where
       rw q (refl, refl)
 
 -- ---- a matrix that no number applies to
-
-pub names-low : (ns : List ℕ) → all isName ns ≡ true → all (λ (n : ℕ). not (over n)) ns ≡ true
-names-low [] h = refl
-names-low (n ∷ ns) h =
-    and-both (not (over n)) (all (λ (k : ℕ). not (over k)) ns)
-    (and-right (isCell n) (not (over n)) (and-left (isName n) (all isName ns) h))
-    (names-low ns (and-right (isName n) (all isName ns) h))
 
 abbrev shaped : ℕ → GivenRow → Bool
 shaped w r = eqb (r .len) w

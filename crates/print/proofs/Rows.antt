@@ -8,12 +8,12 @@ use native.Mathlib.Numerals.{add-one}
 use native.Mathlib.Omega.{arith}
 use Rattle.matrix.specs.Mat as mat
 use Rattle.matrix.specs.declared.Matrix.{Matrix}
+use Rattle.print.specs.Texts.{RowFits, RowsFit, downs, rowsText, trits}
 use Rattle.rows.specs.Rows.{given, view}
 use Rattle.rows.specs.declared.Row.{Row}
 use Rattle.rules.specs.Bytes.{LF, byte, bytes}
 use Rattle.rules.specs.Given.{viewRow}
 use Rattle.rules.specs.Print.{printed, rowLine, ruleText, together, valueLine}
-use Rattle.print.specs.Texts.{RowFits, RowsFit, downs, rowsText, trits}
 
 -- ---- one line
 

@@ -16,7 +16,6 @@ use Rattle.rows.specs.Rows.{flags, flagsFrom, places}
 use Rattle.rules.specs.Matrix.{allX}
 use Rattle.rules.specs.Steps.{place, strip}
 use Rattle.rules.specs.Trits.{isX}
-use Rattle.sets.specs.declared.Rules.{Rules}
 
 pub allX-is : (ms : List ℕ) → allX ms ≡ all isX ms
 unfolding allX
@@ -133,6 +132,3 @@ length-flags go j (n ∷ ns) = ap suc (length-flags go (suc j) ns)
 
 pub nets-path : (r s : Nets) → r .value ≡ s .value → r .columns ≡ s .columns → r ≡ s
 nets-path r s p q = λ i. record { value = p i; columns = q i }
-
-pub rules-path : (r s : Rules) → r .items ≡ s .items → r .count ≡ s .count → r ≡ s
-rules-path r s p q = λ i. record { items = p i; count = q i }

@@ -1,4 +1,4 @@
--- Any function that adds muxes well gives a tree's bits. Assumes nothing.
+-- Emission in closed form; and any function that adds muxes well gives a tree's bits. Assumes nothing.
 use Prim.Native.Nat.{ℕ, zero, suc, _+_, _-_, _*_, _≤_, _<_}
 use mathlib.Core.Bool.{Bool, true, false}
 use mathlib.Core.List.{List, [], _∷_, _++_, map, append-assoc, append-nil}
@@ -19,6 +19,82 @@ use Rattle.rules.specs.Meaning.{Fills, Setting, Trits, bitAt, value, val
 use Rattle.rules.specs.Nets.{first-mux, isCell}
 use Rattle.rules.specs.Tree.{Tree, branches, leaf, node}
 use Rattle.rules.specs.Trits.{bit, mux}
+
+abbrev entry : ℕ → ℕ → ℕ → Mux
+entry t x y = record { select = t; one-arm = x; zero-arm = y }
+
+-- 01's closed form: which entries and which nets
+drives-length : (k w : ℕ) → length (drives k w) ≡ w
+unfolding drives
+drives-length k zero = refl
+drives-length k (suc w) = ap suc (drives-length (suc k) w)
+
+pub nets-length : (g : Gives) (w k : ℕ) (t : Tree) → Fine g w t → length (netsOf g w k t) ≡ w
+unfolding netsOf Fine
+nets-length g w k (leaf rs) h = h .0
+nets-length g w k (node t z o) h = drives-length (k + (muxes w o + muxes w z)) w
+
+branch-length : (t w : ℕ) (xs ys : List ℕ) → length xs ≡ w → length ys ≡ w → length (branch t xs ys) ≡ w
+unfolding branch
+branch-length t w [] ys h k = h
+branch-length t w (x ∷ xs) [] h k = absurd (omega arith)
+branch-length t zero (x ∷ xs) (y ∷ ys) h k = absurd (omega arith)
+branch-length t (suc w) (x ∷ xs) (y ∷ ys) h k = ap suc (branch-length t w xs ys (omega arith) (omega arith))
+
+-- branches times width
+pub muxes-are : (w : ℕ) (t : Tree) → muxes w t ≡ branches t * w
+unfolding muxes branches
+muxes-are w (leaf rs) = omega arith
+muxes-are w (node t z o) =
+    let a = muxes-are w z in
+    let b = muxes-are w o in
+    let c : (branches z + branches o + 1) * w ≡ branches z * w + branches o * w + w = add-mul (branches z + branches o) 1 w ∙ ap (λ (n : ℕ). n + 1 * w) (add-mul (branches z) (branches o) w) ∙ omega arith in
+    omega arith
+
+pub emits-length : (g : Gives) (w k : ℕ) (t : Tree) → Fine g w t → length (emits g w k t) ≡ muxes w t
+unfolding emits muxes Fine
+emits-length g w k (leaf rs) h = refl
+emits-length g w k (node t z o) h =
+    let xs : List ℕ = netsOf g w k o in
+    let ys : List ℕ = netsOf g w (k + muxes w o) z in
+    let a = emits-length g w k o (h .2) in
+    let b = emits-length g w (k + muxes w o) z (h .1) in
+    let c = branch-length t w xs ys (nets-length g w k o (h .2)) (nets-length g w (k + muxes w o) z (h .1)) in
+    omega (arith, length-append (emits g w k o) (emits g w (k + muxes w o) z ++ branch t xs ys), length-append (emits g w (k + muxes w o) z) (branch t xs ys))
+
+all-plain : (t w : ℕ) (xs ys : List ℕ) (T : List Mux) → length xs ≡ w → length ys ≡ w → addAll plain t xs ys T ≡ (T ++ branch t xs ys, drives (length T) w)
+unfolding addAll branch drives
+all-plain t zero [] ys T h k = λ i. (sym (append-nil T) i, [])
+all-plain t (suc w) [] ys T h k = absurd (omega arith)
+all-plain t w (x ∷ xs) [] T h k = absurd (omega arith)
+all-plain t zero (x ∷ xs) (y ∷ ys) T h k = absurd (omega arith)
+all-plain t (suc w) (x ∷ xs) (y ∷ ys) T h k =
+    let U : List Mux = T ++ (entry t x y ∷ []) in
+    let r = all-plain t w xs ys U (omega arith) (omega arith) in
+    let l : length U ≡ suc (length T) = omega (arith, length-append T (entry t x y ∷ [])) in
+    let p : addAll plain t xs ys U .0 ≡ T ++ (entry t x y ∷ branch t xs ys) = ap (λ (q : List Mux × List ℕ). q .0) r ∙ append-assoc T (entry t x y ∷ []) (branch t xs ys) in
+    let q : addAll plain t xs ys U .1 ≡ drives (suc (length T)) w = ap (λ (q : List Mux × List ℕ). q .1) r ∙ ap (λ (k : ℕ). drives k w) l in
+    λ i. (p i, (first-mux + length T) ∷ q i)
+
+pub build-plain : (g : Gives) (w : ℕ) (t : Tree) → Fine g w t → (T : List Mux) → build plain g t T ≡ (T ++ emits g w (length T) t, netsOf g w (length T) t)
+unfolding build emits netsOf Fine
+build-plain g w (leaf rs) h T = λ i. (sym (append-nil T) i, g rs)
+build-plain g w (node t z o) h T =
+    let k : ℕ = length T in
+    let A : List Mux = T ++ emits g w k o in
+    let la : length A ≡ k + muxes w o = length-append T (emits g w k o) ∙ ap (λ (n : ℕ). k + n) (emits-length g w k o (h .2)) in
+    let xs : List ℕ = netsOf g w k o in
+    let E : List Mux = emits g w (k + muxes w o) z in
+    let ys : List ℕ = netsOf g w (k + muxes w o) z in
+    let B : List Mux = A ++ E in
+    let lb : length B ≡ k + (muxes w o + muxes w z) = omega (arith, length-append A E, la, emits-length g w (k + muxes w o) z (h .1)) in
+    let a : build plain g o T ≡ (A, xs) = build-plain g w o (h .2) T in
+    let b : build plain g z A ≡ (B, ys) = build-plain g w z (h .1) A ∙ ap (λ (n : ℕ). (A ++ emits g w n z, netsOf g w n z)) la in
+    let c : addAll plain t xs ys B ≡ (B ++ branch t xs ys, drives (length B) w) = all-plain t w xs ys B (nets-length g w k o (h .2)) (nets-length g w (k + muxes w o) z (h .1)) in
+    ap (λ (p : List Mux × List ℕ). addAll plain t (p .1) (build plain g z (p .0) .1) (build plain g z (p .0) .0)) a
+    ∙ ap (λ (p : List Mux × List ℕ). addAll plain t xs (p .1) (p .0)) b
+    ∙ c
+    ∙ (λ i. ((append-assoc A E (branch t xs ys) ∙ append-assoc T (emits g w k o) (E ++ branch t xs ys)) i, drives (lb i) w))
 
 -- the values of a table
 abbrev pub vals : (ℕ → ℕ) → List Mux → List ℕ
@@ -97,9 +173,6 @@ module _ (add : Adder) (good : Adds add) (f : ℕ → ℕ) (trit : Reads f) wher
         reads = c .reads ∙ ap₂ (muxAll (f t)) xs (b .reads);
       }
 
-abbrev entry : ℕ → ℕ → ℕ → Mux
-entry t x y = record { select = t; one-arm = x; zero-arm = y }
-
 -- 01's function
 plain-low : (T : List Mux) (t x y : ℕ) → first-mux + length T < first-mux + length (T ++ (entry t x y ∷ []))
 plain-low T t x y = omega (arith, length-append T (entry t x y ∷ []))
@@ -123,79 +196,6 @@ plain-adds =
       low = λ T t x y h k l. plain-low T t x y;
       reads = λ f c T t x y h k l. plain-reads f T t x y h;
     }
-
--- 01's closed form: which entries and which nets
-drives-length : (k w : ℕ) → length (drives k w) ≡ w
-unfolding drives
-drives-length k zero = refl
-drives-length k (suc w) = ap suc (drives-length (suc k) w)
-
-pub nets-length : (g : Gives) (w k : ℕ) (t : Tree) → Fine g w t → length (netsOf g w k t) ≡ w
-unfolding netsOf Fine
-nets-length g w k (leaf rs) h = h .0
-nets-length g w k (node t z o) h = drives-length (k + (muxes w o + muxes w z)) w
-
-branch-length : (t w : ℕ) (xs ys : List ℕ) → length xs ≡ w → length ys ≡ w → length (branch t xs ys) ≡ w
-unfolding branch
-branch-length t w [] ys h k = h
-branch-length t w (x ∷ xs) [] h k = absurd (omega arith)
-branch-length t zero (x ∷ xs) (y ∷ ys) h k = absurd (omega arith)
-branch-length t (suc w) (x ∷ xs) (y ∷ ys) h k = ap suc (branch-length t w xs ys (omega arith) (omega arith))
-
--- branches times width
-pub muxes-are : (w : ℕ) (t : Tree) → muxes w t ≡ branches t * w
-unfolding muxes branches
-muxes-are w (leaf rs) = omega arith
-muxes-are w (node t z o) =
-    let a = muxes-are w z in
-    let b = muxes-are w o in
-    let c : (branches z + branches o + 1) * w ≡ branches z * w + branches o * w + w = add-mul (branches z + branches o) 1 w ∙ ap (λ (n : ℕ). n + 1 * w) (add-mul (branches z) (branches o) w) ∙ omega arith in
-    omega arith
-
-pub emits-length : (g : Gives) (w k : ℕ) (t : Tree) → Fine g w t → length (emits g w k t) ≡ muxes w t
-unfolding emits muxes Fine
-emits-length g w k (leaf rs) h = refl
-emits-length g w k (node t z o) h =
-    let xs : List ℕ = netsOf g w k o in
-    let ys : List ℕ = netsOf g w (k + muxes w o) z in
-    let a = emits-length g w k o (h .2) in
-    let b = emits-length g w (k + muxes w o) z (h .1) in
-    let c = branch-length t w xs ys (nets-length g w k o (h .2)) (nets-length g w (k + muxes w o) z (h .1)) in
-    omega (arith, length-append (emits g w k o) (emits g w (k + muxes w o) z ++ branch t xs ys), length-append (emits g w (k + muxes w o) z) (branch t xs ys))
-
-all-plain : (t w : ℕ) (xs ys : List ℕ) (T : List Mux) → length xs ≡ w → length ys ≡ w → addAll plain t xs ys T ≡ (T ++ branch t xs ys, drives (length T) w)
-unfolding addAll branch drives
-all-plain t zero [] ys T h k = λ i. (sym (append-nil T) i, [])
-all-plain t (suc w) [] ys T h k = absurd (omega arith)
-all-plain t w (x ∷ xs) [] T h k = absurd (omega arith)
-all-plain t zero (x ∷ xs) (y ∷ ys) T h k = absurd (omega arith)
-all-plain t (suc w) (x ∷ xs) (y ∷ ys) T h k =
-    let U : List Mux = T ++ (entry t x y ∷ []) in
-    let r = all-plain t w xs ys U (omega arith) (omega arith) in
-    let l : length U ≡ suc (length T) = omega (arith, length-append T (entry t x y ∷ [])) in
-    let p : addAll plain t xs ys U .0 ≡ T ++ (entry t x y ∷ branch t xs ys) = ap (λ (q : List Mux × List ℕ). q .0) r ∙ append-assoc T (entry t x y ∷ []) (branch t xs ys) in
-    let q : addAll plain t xs ys U .1 ≡ drives (suc (length T)) w = ap (λ (q : List Mux × List ℕ). q .1) r ∙ ap (λ (k : ℕ). drives k w) l in
-    λ i. (p i, (first-mux + length T) ∷ q i)
-
-pub build-plain : (g : Gives) (w : ℕ) (t : Tree) → Fine g w t → (T : List Mux) → build plain g t T ≡ (T ++ emits g w (length T) t, netsOf g w (length T) t)
-unfolding build emits netsOf Fine
-build-plain g w (leaf rs) h T = λ i. (sym (append-nil T) i, g rs)
-build-plain g w (node t z o) h T =
-    let k : ℕ = length T in
-    let A : List Mux = T ++ emits g w k o in
-    let la : length A ≡ k + muxes w o = length-append T (emits g w k o) ∙ ap (λ (n : ℕ). k + n) (emits-length g w k o (h .2)) in
-    let xs : List ℕ = netsOf g w k o in
-    let E : List Mux = emits g w (k + muxes w o) z in
-    let ys : List ℕ = netsOf g w (k + muxes w o) z in
-    let B : List Mux = A ++ E in
-    let lb : length B ≡ k + (muxes w o + muxes w z) = omega (arith, length-append A E, la, emits-length g w (k + muxes w o) z (h .1)) in
-    let a : build plain g o T ≡ (A, xs) = build-plain g w o (h .2) T in
-    let b : build plain g z A ≡ (B, ys) = build-plain g w z (h .1) A ∙ ap (λ (n : ℕ). (A ++ emits g w n z, netsOf g w n z)) la in
-    let c : addAll plain t xs ys B ≡ (B ++ branch t xs ys, drives (length B) w) = all-plain t w xs ys B (nets-length g w k o (h .2)) (nets-length g w (k + muxes w o) z (h .1)) in
-    ap (λ (p : List Mux × List ℕ). addAll plain t (p .1) (build plain g z (p .0) .1) (build plain g z (p .0) .0)) a
-    ∙ ap (λ (p : List Mux × List ℕ). addAll plain t xs (p .1) (p .0)) b
-    ∙ c
-    ∙ (λ i. ((append-assoc A E (branch t xs ys) ∙ append-assoc T (emits g w k o) (E ++ branch t xs ys)) i, drives (lb i) w))
 
 pub value-trit : (σ : Setting) → Reads (value σ)
 value-trit σ = record { one-is = refl; zero-is = refl; small = λ n. by-bool (isCell n) (λ p. rw p (bit-le (bitAt σ n))) (λ p. let l = leb-false 3 n p in rw p (omega arith)) }

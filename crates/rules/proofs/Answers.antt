@@ -8,14 +8,13 @@ use native.Mathlib.Omega.{arith}
 use native.Mathlib.Nat.{add-zero}
 use lib.ListN.{length, getD, length-append, length-map}
 use Rattle.lists.specs.Lists.{mem}
-use Rattle.rules.proofs.Muxes.{Cell, Under, bits-eval, bits-under, fills-nets}
 use Rattle.rules.proofs.Tables.{Fine, nets-more, ran}
 use Rattle.rules.specs.Closed.{Low, Updates, Wide, answers, bitsOf, emits, netsOf}
 use Rattle.rules.specs.Emit.{Gives, Mux, Update, disjoint, getElse, oneHot, orElse, updateFor}
 use Rattle.rules.specs.Evaluate.{netIn, run}
-use Rattle.rules.specs.Meaning.{Fills, Setting, Trits, bitAt, value, valueAt}
+use Rattle.rules.specs.Meaning.{Setting, value}
 use Rattle.rules.specs.Nets.{first-mux}
-use Rattle.rules.specs.Tree.{Tests, Tree, eval, leaf, node}
+use Rattle.rules.specs.Tree.{Tests, Tree, leaf, node}
 use Rattle.rules.specs.Trits.{bit, mux}
 
 pub run-append : (f : ℕ → ℕ) (vs : List ℕ) (xs ys : List Mux) → run f vs (xs ++ ys) ≡ run f (run f vs xs) ys
@@ -63,20 +62,12 @@ unfolding Fine Tests
 fine-of g w h (leaf rs) c = (h .width rs, h .small rs)
 fine-of g w h (node t z o) c = (c .0, fine-of g w h z (c .1), fine-of g w h o (c .2))
 
--- at bits: what the leaf that is reached gives
-pub answers-eval : (σ : Setting) (g : Gives) (w : ℕ) → Wide g w → (old more : List Mux) (t : Tree) → Tests (λ n. n < first-mux) t → Tests Cell t
-    → answers (value σ) g w old more t ≡ map (value σ) (g (eval (bitAt σ) t))
-answers-eval σ g w h old more t s c = answers-bits (value σ) g w old more t (fine-of g w h t s) ∙ bits-eval σ g w (h .width) t c
-
--- at trits: what is known stays at every filling
-pub answers-fills : (τ : Trits) (σ : Setting) → Fills τ σ → (g : Gives) (w : ℕ) → Wide g w → (old more : List Mux) (t : Tree) → Tests (λ n. n < first-mux) t
-    → (i : ℕ) → Under (getD (answers (valueAt τ) g w old more t) i 2) (getD (answers (value σ) g w old more t) i 2)
-answers-fills τ σ f g w h old more t s i =
-    let n = fine-of g w h t s in
-    rw (answers-bits (valueAt τ) g w old more t n, answers-bits (value σ) g w old more t n)
-    (bits-under (valueAt τ) (value σ) (λ n l. fills-nets τ σ f n) g w t n i)
-
 -- one-hot
+pub hot-at : (outs rs : List ℕ) (i : ℕ) → i < length outs → getD (oneHot outs rs) i 2 ≡ bit (mem (getD outs i 0) rs)
+hot-at [] rs i h = absurd (omega arith)
+hot-at (q ∷ outs) rs zero h = refl
+hot-at (q ∷ outs) rs (suc i) h = hot-at outs rs i (omega arith)
+
 bit-small : (b : Bool) → bit b < first-mux
 bit-small true = omega arith
 bit-small false = omega arith
@@ -96,11 +87,6 @@ value-bit σ false = refl
 pub oneHot-value : (σ : Setting) (outs rs : List ℕ) → map (value σ) (oneHot outs rs) ≡ oneHot outs rs
 oneHot-value σ [] rs = refl
 oneHot-value σ (q ∷ outs) rs = ap₂ _∷_ (value-bit σ (mem q rs)) (oneHot-value σ outs rs)
-
-pub hot-at : (outs rs : List ℕ) (i : ℕ) → i < length outs → getD (oneHot outs rs) i 2 ≡ bit (mem (getD outs i 0) rs)
-hot-at [] rs i h = absurd (omega arith)
-hot-at (q ∷ outs) rs zero h = refl
-hot-at (q ∷ outs) rs (suc i) h = hot-at outs rs i (omega arith)
 
 -- disjoint
 abbrev Fits : ℕ → Option (List ℕ) → Type 0

@@ -24,19 +24,19 @@ by-order a b f g = by-bool (ltb a b) (λ p. f (ltb-true a b p)) (λ p. g (ltb-fa
 -- ---- numbers
 
 module _ (n : ℕ) where
-  digits-1 : n < 10 → digits n ≡ digit n ∷ []
+  pub digits-1 : n < 10 → digits n ≡ digit n ∷ []
   unfolding digits
   digits-1 h = simp (lt-ltb _ _ h)
 
-  digits-2 : 10 ≤ n → n < 100 → digits n ≡ digit (n / 10) ∷ digit n ∷ []
+  pub digits-2 : 10 ≤ n → n < 100 → digits n ≡ digit (n / 10) ∷ digit n ∷ []
   unfolding digits
   digits-2 l h = simp (le-ltb _ _ l, lt-ltb _ _ h)
 
-  digits-3 : 100 ≤ n → n < 1000 → digits n ≡ digit (n / 100) ∷ digit (n / 10) ∷ digit n ∷ []
+  pub digits-3 : 100 ≤ n → n < 1000 → digits n ≡ digit (n / 100) ∷ digit (n / 10) ∷ digit n ∷ []
   unfolding digits
   digits-3 l h = let k : 10 ≤ n = omega arith in simp (le-ltb _ _ k, le-ltb _ _ l, lt-ltb _ _ h)
 
-  digits-4 : 1000 ≤ n → digits n ≡ digit (n / 1000) ∷ digit (n / 100) ∷ digit (n / 10) ∷ digit n ∷ []
+  pub digits-4 : 1000 ≤ n → digits n ≡ digit (n / 1000) ∷ digit (n / 100) ∷ digit (n / 10) ∷ digit n ∷ []
   unfolding digits
   digits-4 l =
       let k : 10 ≤ n = omega arith in

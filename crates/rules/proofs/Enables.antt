@@ -1,9 +1,8 @@
 -- The enable, and the catch-all. Assumes nothing.
 use Prim.Native.Nat.{ℕ, zero, suc, _<_}
-use mathlib.Core.Path.{_≡_, refl, sym, ap, _∙_, subst}
-use mathlib.Core.Logic.{_⊎_, inl, inr}
+use mathlib.Core.Path.{_≡_, refl, sym, ap, _∙_}
 use mathlib.Core.List.{List, [], _∷_, _++_, map}
-use mathlib.Core.Bool.{Bool, true, false, _&&_, false≢true, and-true, and-false}
+use mathlib.Core.Bool.{Bool, true, false, _&&_, false≢true, and-assoc, and-true, and-false}
 use mathlib.Core.Option.{Option, none, some}
 use native.Mathlib.Omega.{arith}
 use lib.Dec.{eqb}
@@ -23,11 +22,7 @@ unfolding matches
 matches-snoc f [] [] e t l = and-true (fits t (f e))
 matches-snoc f [] (m ∷ ms) e t l = absurd (omega arith)
 matches-snoc f (n ∷ ns) [] e t l = absurd (omega arith)
-matches-snoc f (n ∷ ns) (m ∷ ms) e t l = rw (matches-snoc f ns ms e t (omega arith)) (deep (fits m (f n)) (matches f ns ms) (fits t (f e)))
-  where
-    deep : (a b c : Bool) → (a && (b && c)) ≡ ((a && b) && c)
-    deep true b c = refl
-    deep false b c = refl
+matches-snoc f (n ∷ ns) (m ∷ ms) e t l = rw (matches-snoc f ns ms e t (omega arith)) (sym (and-assoc (fits m (f n)) (matches f ns ms) (fits t (f e))))
 
 widened-on : (f : ℕ → ℕ) (ns : List ℕ) (e : ℕ) (rs : List Row) → Shaped (length ns) rs → fits 1 (f e) ≡ true → firstRow f (ns ++ (e ∷ [])) (map widened rs) ≡ firstRow f ns rs
 unfolding firstRow Shaped
@@ -144,10 +139,3 @@ enable-X m s =
     let ns : List ℕ = m .nets ++ (2 ∷ []) in
     let c : columns (asked ns []) [] ns ≡ [] = columns-none (asked ns []) [] ns (λ n. refl) in
     rw k (λ i. record { nets = c i; rows = [] })
-
-pub catch-cases : (e : ℕ) (m : Matrix) → Shaped (length (m .nets)) (m .rows) → catchAll (m .rows) ≡ true
-    → (normalize (addEnable e m) ≡ record { nets = []; rows = [] }) ⊎ Covered (addEnable e m)
-catch-cases e m s c =
-    by-bool (eqb e 2)
-    (λ p. inl (subst (λ (x : ℕ). normalize (addEnable x m) ≡ record { nets = []; rows = [] }) (sym (eqb-true e 2 p)) (enable-X m s)))
-    (λ p. inr (covered-enable e m s c (eqb-false e 2 p)))

@@ -1,5 +1,5 @@
 -- A mux table as numbers: the entries in use are read back, those appended stand after them, and they are well formed. Assumes nothing.
-use Prim.Native.Nat.{ℕ, zero, suc, _+_, _-_, _*_, _/_, _≤_, _<_, min}
+use Prim.Native.Nat.{ℕ, zero, suc, _+_, _*_, _/_, _≤_, _<_, min}
 use mathlib.Core.Bool.{true, _&&_}
 use mathlib.Core.List.{List, [], _∷_, _++_, append-assoc, map}
 use mathlib.Core.Path.{_≡_, refl, sym, ap, ap₂, _∙_}
@@ -11,9 +11,9 @@ use lib.Seq.{take-add}
 use Rattle.lists.specs.Bools.{and-both, and-left, and-right}
 use Rattle.lists.specs.Runs.{runs}
 use Rattle.rules.proofs.Added.{emits-length}
-use Rattle.rules.proofs.Tables.{Fine, low-le}
+use Rattle.rules.proofs.Tables.{Fine, drives-low, low-le}
 use Rattle.rules.specs.Bounds.{mux-max, mux-run}
-use Rattle.rules.specs.Closed.{Low, branch, drives, emits, muxes, netsOf}
+use Rattle.rules.specs.Closed.{Low, branch, emits, muxes, netsOf}
 use Rattle.rules.specs.Emit.{Gives, Mux, appended, flat, formed, inUse, muxOf, room}
 use Rattle.rules.specs.Nets.{first-mux}
 use Rattle.rules.specs.Tree.{Tree, leaf, node}
@@ -115,11 +115,6 @@ branch-formed k t (x ∷ xs) [] h p q = refl
 branch-formed k t (x ∷ xs) (y ∷ ys) h p q =
     let up = low-le (first-mux + k) (first-mux + suc k) (omega arith) in
     rw (lt-ltb t (first-mux + k) (omega arith), lt-ltb x (first-mux + k) (p .0), lt-ltb y (first-mux + k) (q .0)) (branch-formed (suc k) t xs ys h (up xs (p .1)) (up ys (q .1)))
-
-drives-low : (k w b : ℕ) → first-mux + (k + w) ≤ b → Low b (drives k w)
-unfolding drives Low
-drives-low k zero b h = tt
-drives-low k (suc w) b h = (omega arith, drives-low (suc k) w b (omega arith))
 
 -- the nets of a tree's value are driven by its own muxes at the latest
 pub nets-driven : (g : Gives) (w k : ℕ) (t : Tree) → Fine g w t → Low (first-mux + (k + muxes w t)) (netsOf g w k t)

@@ -6,6 +6,7 @@ use mathlib.Core.Bool.{Bool, true, false}
 use native.Mathlib.Omega.{arith}
 use native.Mathlib.Nat.{le-refl}
 use lib.ListN.{length}
+use Rattle.rules.specs.Bounds.{rules-max}
 use Rattle.rules.specs.Fuel.{raw}
 use Rattle.rules.specs.Tree.{Fit, Once, Untested, leaf, node}
 
@@ -54,7 +55,7 @@ module _ (M : Type 0) (done : M → Bool) (rules : M → List ℕ) (test : M →
       raw-false f m e ∙ ap₂ (node (test m)) (fuel f (rank (sub false m)) (sub false m) (omega arith) (le-refl _)) (fuel f (rank (sub true m)) (sub true m) (omega arith) (le-refl _))
 
 module _ (M : Type 0) (done : M → Bool) (rules : M → List ℕ) (test : M → ℕ) (sub : Bool → M → M)
-    (P : M → Type 0) (keeps : (m : M) (b : Bool) → P m → P (sub b m)) (few : (m : M) → P m → length (rules m) ≤ 8) where
+    (P : M → Type 0) (keeps : (m : M) (b : Bool) → P m → P (sub b m)) (few : (m : M) → P m → length (rules m) ≤ rules-max) where
   fit-go : (f : ℕ) (m : M) (b : Bool) → P m → Fit (raw M done rules test sub f (sub false m)) → Fit (raw M done rules test sub f (sub true m)) → done m ≡ b
       → Fit (raw M done rules test sub (suc f) m)
   unfolding raw Fit

@@ -17,19 +17,23 @@ use Rattle.rules.specs.Nets.{cell, isCell, number}
 use Rattle.rules.specs.Print.{digits, gap, grouped, net, nets, printed, rowLine, ruleText, together, valueLine}
 
 -- a space, the percent sign and four figures
-abbrev net-long : ℕ
+abbrev pub net-long : ℕ
 net-long = 6
 
+-- the rules of a line
+abbrev pub rules-long : ℕ
+rules-long = net-long * rules-max
+
 -- the bracket, the nets, and what closes the line
-abbrev value-long : ℕ
-value-long = 1 + net-long * columns-max + 4
+abbrev pub value-max : ℕ
+value-max = 1 + net-long * columns-max + 4
 
 -- two spaces, the trits with a mark before every fourth, the arrow, the rules, LF
-abbrev row-long : ℕ
-row-long = 2 + columns-max + (columns-max - 1) / 4 + 3 + net-long * rules-max + 1
+abbrev pub row-max : ℕ
+row-max = 2 + columns-max + (columns-max - 1) / 4 + 3 + rules-long + 1
 
 abbrev pub text-max : ℕ
-text-max = value-long + rows-max * row-long
+text-max = value-max + rows-max * row-max
 
 pub text-max-is : text-max ≡ 4773
 text-max-is = refl
@@ -43,7 +47,7 @@ digits-few n =
     (λ p. rw p (by-bool (ltb n 100) (λ q. rw q (omega arith))
     (λ q. rw q (by-bool (ltb n 1000) (λ r. rw r (omega arith)) (λ r. rw r (omega arith))))))
 
-net-few : (n : ℕ) → length (net n) < net-long
+pub net-few : (n : ℕ) → length (net n) < net-long
 unfolding net
 net-few n = let d = digits-few (number n) in by-bool (isCell n) (λ p. rw p (omega arith)) (λ p. rw p (omega arith))
 
@@ -52,25 +56,25 @@ unfolding nets
 nets-few [] = omega arith
 nets-few (n ∷ ns) = omega (arith, net-few n, nets-few ns, length-append (byte " " ∷ net n) (nets ns))
 
-value-few : (ns : List ℕ) → length ns ≤ columns-max → length (valueLine ns) ≤ value-long
+pub value-few : (ns : List ℕ) → length ns ≤ columns-max → length (valueLine ns) ≤ value-max
 unfolding bytes valueLine
 value-few ns h =
     omega (arith, nets-few (reverse ns), length-reverse ns, length-append (byte "[" ∷ nets (reverse ns)) (bytes " ]:" ++ (LF ∷ [])))
 
 -- marks before a place: one for each fourth before it
-gap-yes : (i : ℕ) → gap i ≡ true → i / 4 ≡ (i - 1) / 4 + 1
+pub gap-yes : (i : ℕ) → gap i ≡ true → i / 4 ≡ (i - 1) / 4 + 1
 gap-yes i h =
     let a = eqb-true (i % 4) 0 (and-right (not (eqb i 0)) (eqb (i % 4) 0) h) in
     let b = eqb-false i 0 (not-is (eqb i 0) (and-left (not (eqb i 0)) (eqb (i % 4) 0) h)) in
     omega (arith, a, b)
 
-gap-no : (i : ℕ) → gap i ≡ false → i / 4 ≡ (i - 1) / 4
+pub gap-no : (i : ℕ) → gap i ≡ false → i / 4 ≡ (i - 1) / 4
 gap-no i h =
     by-bool (eqb i 0)
     (λ p. let a = eqb-true i 0 p in omega (arith, a))
     (λ p. let a = eqb-false (i % 4) 0 (rw p at h) in omega (arith, a))
 
-grouped-long : (i : ℕ) (ts : List ℕ) → length (grouped i ts) + (i - 1) / 4 ≡ length ts + (i + length ts - 1) / 4
+pub grouped-long : (i : ℕ) (ts : List ℕ) → length (grouped i ts) + (i - 1) / 4 ≡ length ts + (i + length ts - 1) / 4
 unfolding grouped
 grouped-long i [] = omega arith
 grouped-long i (t ∷ ts) =
@@ -79,12 +83,12 @@ grouped-long i (t ∷ ts) =
     (λ p. let g = gap-yes i p in rw p (omega (arith, g, r)))
     (λ p. let g = gap-no i p in rw p (omega (arith, g, r)))
 
-rules-few : (rs : List ℕ) → length rs ≤ rules-max → length (ruleText rs) ≤ net-long * rules-max
+pub rules-few : (rs : List ℕ) → length rs ≤ rules-max → length (ruleText rs) ≤ rules-long
 unfolding bytes ruleText
 rules-few [] h = omega arith
 rules-few (n ∷ ns) h = omega (arith, nets-few (n ∷ ns))
 
-row-few : (r : Row) → length (r .pattern) ≤ columns-max → length (r .rules) ≤ rules-max → length (rowLine r) ≤ row-long
+pub row-few : (r : Row) → length (r .pattern) ≤ columns-max → length (r .rules) ≤ rules-max → length (rowLine r) ≤ row-max
 unfolding bytes rowLine
 row-few r h k =
     let p = reverse (r .pattern) in
@@ -93,7 +97,7 @@ row-few r h k =
     let t = rules-few (r .rules) k in
     simp length-append (omega arith)
 
-rows-few : (w : ℕ) (rs : List Row) → w ≤ columns-max → SizedRows w rs → length (together (map rowLine rs)) ≤ length rs * row-long
+rows-few : (w : ℕ) (rs : List Row) → w ≤ columns-max → SizedRows w rs → length (together (map rowLine rs)) ≤ length rs * row-max
 unfolding SizedRows
 rows-few w [] h s = omega arith
 rows-few w (r ∷ rs) h s =

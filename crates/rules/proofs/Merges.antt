@@ -2,7 +2,7 @@
 use Prim.Native.Nat.{ℕ}
 use mathlib.Core.Path.{_≡_, refl, sym, ap, _∙_}
 use mathlib.Core.List.{List, [], _∷_, _++_, map}
-use mathlib.Core.Bool.{Bool, true, false, cond, _&&_, and-true}
+use mathlib.Core.Bool.{Bool, true, false, cond, _&&_, and-assoc, and-true}
 use mathlib.Core.Option.{some}
 use native.Mathlib.Omega.{arith}
 use lib.ListN.{length, replicate}
@@ -18,11 +18,7 @@ unfolding matches
 matches-join f [] [] ns' ms' l = refl
 matches-join f [] (m ∷ ms) ns' ms' l = absurd (omega arith)
 matches-join f (n ∷ ns) [] ns' ms' l = absurd (omega arith)
-matches-join f (n ∷ ns) (m ∷ ms) ns' ms' l = rw (matches-join f ns ms ns' ms' (omega arith)) (deep (fits m (f n)) (matches f ns ms) (matches f ns' ms'))
-  where
-    deep : (a b c : Bool) → (a && (b && c)) ≡ ((a && b) && c)
-    deep true b c = refl
-    deep false b c = refl
+matches-join f (n ∷ ns) (m ∷ ms) ns' ms' l = rw (matches-join f ns ms ns' ms' (omega arith)) (sym (and-assoc (fits m (f n)) (matches f ns ms) (matches f ns' ms')))
 
 -- a parent row that matches, with the child's rows: the child's first
 joined-on : (f : ℕ → ℕ) (ns cs : List ℕ) (r : Row) (c : List ℕ) (crs rest : List Row) → length (r .pattern) ≡ length ns → matches f ns (r .pattern) ≡ true → firstRow f cs crs ≡ some c

@@ -10,6 +10,16 @@ use Rattle.rules.proofs.Muxes.{Cell}
 use Rattle.rules.specs.Meaning.{Setting, bitAt, update}
 use Rattle.rules.specs.Tree.{Once, Tests, Tree, Untested, eval, leaf, node, someLeaf}
 
+pub reached-some : (p : List ℕ → Bool) (v : ℕ → Bool) (t : Tree) → p (eval v t) ≡ true → someLeaf p t ≡ true
+unfolding someLeaf eval
+reached-some p v (leaf rs) e = e
+reached-some p v (node t z o) e =
+    let a = reached-some p v z in
+    let b = reached-some p v o in
+    by-bool (v t)
+    (λ q. or-right (someLeaf p z) (someLeaf p o) (b (rw q at e)))
+    (λ q. or-left (someLeaf p z) (someLeaf p o) (a (rw q at e)))
+
 -- a net that is not tested may be set
 untested-eval : (σ : Setting) (n : ℕ) (b : Bool) → Cell n → (t : Tree) → Untested n t → Tests Cell t → eval (bitAt (update σ (n - 3) b)) t ≡ eval (bitAt σ) t
 unfolding eval Untested Tests
@@ -36,13 +46,3 @@ some-reached p (node t z o) w c e =
     let r = b q in
     let same : eval (bitAt (update (r .0) (t - 3) true)) o ≡ eval (bitAt (r .0)) o = untested-eval (r .0) t true (c .0) o (w .1) (c .2) in
     (update (r .0) (t - 3) true, rw (eq-eqb (t - 3) (t - 3) refl, same) (r .1)))
-
-pub reached-some : (p : List ℕ → Bool) (v : ℕ → Bool) (t : Tree) → p (eval v t) ≡ true → someLeaf p t ≡ true
-unfolding someLeaf eval
-reached-some p v (leaf rs) e = e
-reached-some p v (node t z o) e =
-    let a = reached-some p v z in
-    let b = reached-some p v o in
-    by-bool (v t)
-    (λ q. or-right (someLeaf p z) (someLeaf p o) (b (rw q at e)))
-    (λ q. or-left (someLeaf p z) (someLeaf p o) (a (rw q at e)))

@@ -116,18 +116,18 @@ read-one s (wrong k) (wrong l) (j, p, a) (i, q, b) =
 
 -- ---- which lines are a row's, and which a value line
 
-row-true : (w : ℕ) (r : Row) → goodRow w r ≡ true → isRowLine w (rowLine r) ≡ true
-unfolding isRowLine
-row-true w r h =
-    subst (λ (q : Row). (same (rowLine q) (rowLine r) && goodRow w q) ≡ true) (sym (row-back w r h))
-    (and-both (same (rowLine r) (rowLine r)) (goodRow w r) (same-refl (rowLine r)) h)
-
 row-is : (w : ℕ) (l : List ℕ) → isRowLine w l ≡ true → (rowLine (rowIn l) ≡ l) × (goodRow w (rowIn l) ≡ true)
 unfolding isRowLine
 row-is w l h = (
   same-true (rowLine (rowIn l)) l (and-left (same (rowLine (rowIn l)) l) (goodRow w (rowIn l)) h),
   and-right (same (rowLine (rowIn l)) l) (goodRow w (rowIn l)) h,
 )
+
+row-true : (w : ℕ) (r : Row) → goodRow w r ≡ true → isRowLine w (rowLine r) ≡ true
+unfolding isRowLine
+row-true w r h =
+    subst (λ (q : Row). (same (rowLine q) (rowLine r) && goodRow w q) ≡ true) (sym (row-back w r h))
+    (and-both (same (rowLine r) (rowLine r)) (goodRow w r) (same-refl (rowLine r)) h)
 
 abbrev fewLow : List ℕ → Bool
 fewLow ns = leb (length ns) columns-max && all low ns
@@ -179,7 +179,7 @@ take-more : (xs : List (List ℕ)) (l : List ℕ) (ls : List (List ℕ)) (k : �
 take-more xs l ls k h = rw (h, take-append-add xs (l ∷ ls) 1)
 
 -- the line is a row's, and there is room for a row
-abbrev fits : List ℕ → List Row → List ℕ → Bool
+abbrev pub fits : List ℕ → List Row → List ℕ → Bool
 fits ns rs l = isRowLine (length ns) l && ltb (length rs) rows-max
 
 -- a line after those of a good matrix
@@ -216,11 +216,11 @@ module _ (s : List ℕ) (m : Matrix) (l : List ℕ) (ls : List (List ℕ)) (h : 
 -- ---- line by line
 
 module _ (ns : List ℕ) (rs : List Row) (l : List ℕ) (ls : List (List ℕ)) where
-  rows-on : fits ns rs l ≡ true → readRows ns rs (l ∷ ls) ≡ readRows ns (rs ++ (rowIn l ∷ [])) ls
+  pub rows-on : fits ns rs l ≡ true → readRows ns rs (l ∷ ls) ≡ readRows ns (rs ++ (rowIn l ∷ [])) ls
   unfolding readRows
   rows-on f = rw f
 
-  rows-off : fits ns rs l ≡ false → readRows ns rs (l ∷ ls) ≡ wrong (length rs + 2)
+  pub rows-off : fits ns rs l ≡ false → readRows ns rs (l ∷ ls) ≡ wrong (length rs + 2)
   unfolding readRows
   rows-off f = rw f
 
@@ -237,11 +237,11 @@ rows-read s ns rs (l ∷ ls) h e =
     subst (λ (r : Read). ReadIs s r) (sym (rows-on ns rs l ls f)) (more (good-snoc m (rowIn l) h (row-is (length ns) l a .1) b) (row-more s m l ls h e a)))
     (λ f. subst (λ (r : Read). ReadIs s r) (sym (rows-off ns rs l ls f)) (suc (length rs), omega arith, row-wrong s m l ls h e f))
 
-first-on : (l : List ℕ) (ls : List (List ℕ)) → isValueLine l ≡ true → readLines (l ∷ ls) ≡ readRows (netsIn l) [] ls
+pub first-on : (l : List ℕ) (ls : List (List ℕ)) → isValueLine l ≡ true → readLines (l ∷ ls) ≡ readRows (netsIn l) [] ls
 unfolding readLines
 first-on l ls f = rw f
 
-first-off : (l : List ℕ) (ls : List (List ℕ)) → isValueLine l ≡ false → readLines (l ∷ ls) ≡ wrong 1
+pub first-off : (l : List ℕ) (ls : List (List ℕ)) → isValueLine l ≡ false → readLines (l ∷ ls) ≡ wrong 1
 unfolding readLines
 first-off l ls f = rw f
 

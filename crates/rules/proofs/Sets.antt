@@ -5,8 +5,8 @@ use mathlib.Core.List.{List, [], _∷_, _++_, map}
 use mathlib.Core.Path.{_≡_, refl, sym, ap, _∙_}
 use native.Mathlib.Omega.{arith}
 use lib.Dec.{eqb, ltb}
-use borrow.Author.Tests.{eqb-true, eqb-false, lt-ltb, ltb-false, ltb-true}
-use Rattle.lists.specs.Bools.{and-both, and-left, and-right, by-bool}
+use borrow.Author.Tests.{eqb-true, eqb-false, ltb-false, ltb-true}
+use Rattle.lists.specs.Bools.{and-left, and-right, by-bool}
 use Rattle.lists.specs.Lists.{mem}
 use Rattle.rules.proofs.Leafs.{Named}
 use Rattle.rules.specs.Given.{above, ascends}
@@ -17,7 +17,7 @@ unfolding Above
 above-less a b h [] k = tt
 above-less a b h (x ∷ xs) k = (omega (arith, k .0), above-less a b h xs (k .1))
 
--- ---- the test that a list ascends is the fact
+-- ---- what the test that a list ascends says
 
 above-says : (b : ℕ) (xs : List ℕ) → above b xs ≡ true → Above b xs × Ascends xs
 unfolding above Above Ascends
@@ -27,20 +27,10 @@ above-says b (x ∷ xs) e =
     let r = above-says x xs (and-right (ltb b x) (above x xs) e) in
     ((h, above-less b x h xs (r .0)), r)
 
-above-test : (b : ℕ) (xs : List ℕ) → Above b xs → Ascends xs → above b xs ≡ true
-unfolding above Above Ascends
-above-test b [] h k = refl
-above-test b (x ∷ xs) h k = and-both (ltb b x) (above x xs) (lt-ltb b x (h .0)) (above-test x xs (k .0) (k .1))
-
 pub ascends-says : (xs : List ℕ) → ascends xs ≡ true → Ascends xs
 unfolding ascends Ascends
 ascends-says [] e = tt
 ascends-says (x ∷ xs) e = above-says x xs e
-
-pub ascends-test : (xs : List ℕ) → Ascends xs → ascends xs ≡ true
-unfolding ascends Ascends
-ascends-test [] k = refl
-ascends-test (x ∷ xs) k = above-test x xs (k .0) (k .1)
 
 ins-above : (b x : ℕ) → b < x → (ys : List ℕ) → Above b ys → Above b (ins x ys)
 unfolding Above ins

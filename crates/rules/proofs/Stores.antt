@@ -74,7 +74,7 @@ fine-cells (node t z o) h = (name-cell t (fine-test t z o h), fine-cells z (fine
 
 -- ---- the coding
 
-cells-back : (rs : List ℕ) → AllCells rs → map cell (map number rs) ≡ rs
+pub cells-back : (rs : List ℕ) → AllCells rs → map cell (map number rs) ≡ rs
 unfolding AllCells
 cells-back [] h = refl
 cells-back (r ∷ rs) h =

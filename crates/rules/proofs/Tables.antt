@@ -78,7 +78,7 @@ drives-read f vs (w ∷ ws) =
     head : netIn f (vs ++ (w ∷ ws)) (first-mux + length vs) ≡ w
     head = rw (le-ltb (first-mux + length vs) first-mux (omega arith), off) (getD-at vs w ws 2)
 
-drives-low : (k w b : ℕ) → first-mux + (k + w) ≤ b → Low b (drives k w)
+pub drives-low : (k w b : ℕ) → first-mux + (k + w) ≤ b → Low b (drives k w)
 unfolding drives Low
 drives-low k zero b h = tt
 drives-low k (suc w) b h = (omega arith, drives-low (suc k) w b (omega arith))

@@ -104,12 +104,12 @@ value-words ns =
     ap words (value-spaced ns)
     ∙ words-word (byte "[" ∷ []) (spaced (valueWords ns)) (valueWords ns) (omega arith, tt) (spaced-some (valueWords ns)) (words-of (valueWords ns) (value-solid ns))
 
-all-append : (p : ℕ → Bool) (xs ys : List ℕ) → all p xs ≡ true → all p ys ≡ true → all p (xs ++ ys) ≡ true
+pub all-append : (p : ℕ → Bool) (xs ys : List ℕ) → all p xs ≡ true → all p ys ≡ true → all p (xs ++ ys) ≡ true
 all-append p [] ys h k = k
 all-append p (x ∷ xs) ys h k =
     and-both (p x) (all p (xs ++ ys)) (and-left (p x) (all p xs) h) (all-append p xs ys (and-right (p x) (all p xs) h) k)
 
-all-reverse : (p : ℕ → Bool) (xs : List ℕ) → all p xs ≡ true → all p (reverse xs) ≡ true
+pub all-reverse : (p : ℕ → Bool) (xs : List ℕ) → all p xs ≡ true → all p (reverse xs) ≡ true
 all-reverse p [] h = refl
 all-reverse p (x ∷ xs) h =
     let r = all-reverse p xs (and-right (p x) (all p xs) h) in
@@ -164,7 +164,7 @@ net-no-mark : (n : ℕ) → isCell n ≡ true → same (net n) (bytes "(empty)")
 unfolding bytes same
 net-no-mark n h = rw (net-cell n h)
 
-names-low : (ns : List ℕ) → all isName ns ≡ true → all (λ (n : ℕ). not (over n)) ns ≡ true
+pub names-low : (ns : List ℕ) → all isName ns ≡ true → all (λ (n : ℕ). not (over n)) ns ≡ true
 names-low [] h = refl
 names-low (n ∷ ns) h =
     and-both (not (over n)) (all (λ (k : ℕ). not (over k)) ns)

@@ -8,20 +8,19 @@ use mathlib.Core.Path.{_≡_, refl, sym, ap, _∙_, subst}
 use native.Mathlib.Nat.{add-assoc, add-zero}
 use native.Mathlib.Omega.{arith}
 use Rattle.lists.specs.Vec.{take-vec, vec}
+use Rattle.print.proofs.Laws.{put-nil, put-put, put-then}
+use Rattle.print.proofs.Numbers.{low-at}
+use Rattle.print.proofs.Prints.{take-put}
+use Rattle.print.proofs.Rows.{arrow, margin}
+use Rattle.print.specs.Put.{Put, Room}
+use Rattle.rules.proofs.Longest.{net-few, rules-few, rules-long}
 use Rattle.rules.specs.Bounds.{node-run, rules-max}
 use Rattle.rules.specs.Bytes.{LF, byte, bytes}
 use Rattle.rules.specs.Nets.{cell, first-mux}
 use Rattle.rules.specs.Print.{arm, armHead, indent, net, printedTree, ruleText, trit}
 use Rattle.rules.specs.Refusals.{allLow}
 use Rattle.rules.specs.Tree.{leaf}
-use Rattle.print.proofs.Laws.{put-nil, put-put, put-then}
-use Rattle.print.proofs.Numbers.{low-at}
-use Rattle.print.proofs.Prints.{take-put}
-use Rattle.print.proofs.Rows.{arrow, margin}
-use Rattle.text.proofs.RowsIn.{rules-few}
-use Rattle.text.proofs.Values.{net-few}
-use Rattle.text.specs.Longs.{head-max, rules-long}
-use Rattle.print.specs.Put.{Put, Room}
+use Rattle.text.specs.Longs.{head-max}
 use Rattle.text.specs.Trees.{Laid, LeafFits, branchLine, lastRules, ruleEnd}
 
 -- ---- what is laid

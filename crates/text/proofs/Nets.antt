@@ -13,11 +13,11 @@ use Rattle.lists.specs.Bools.{and-both, and-left, and-right, by-bool}
 use Rattle.lists.specs.Lists.{all}
 use Rattle.rules.proofs.Accepts.{not-over}
 use Rattle.rules.proofs.Digits.{net-cell}
+use Rattle.rules.proofs.Longest.{net-long}
 use Rattle.rules.specs.Bytes.{byte}
 use Rattle.rules.specs.Nets.{cell, first-mux, isCell, number, over}
 use Rattle.rules.specs.Print.{digits, net, nets}
 use Rattle.text.proofs.Scans.{NoFigure, cell-printed, word-low, word-short}
-use Rattle.text.specs.Longs.{net-long}
 use Rattle.text.specs.Scan.{cellAt, figureOf, scanned, wordAt}
 use Rattle.text.specs.declared.inner.scan.Word.{Word}
 

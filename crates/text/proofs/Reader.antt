@@ -17,6 +17,8 @@ use Rattle.matrix.specs.declared.Matrix.{Matrix as MatrixStruct}
 use Rattle.rows.specs.Rows.{from, netsFrom, rowFrom}
 use Rattle.rows.specs.declared.Nets.{Nets}
 use Rattle.rows.specs.declared.Row.{Row as Struct}
+use Rattle.rules.proofs.Reader.{first-off, first-on, fits, rows-off, rows-on}
+use Rattle.rules.proofs.Words.{all-append}
 use Rattle.rules.specs.Answers.{readAnswer, readMade}
 use Rattle.rules.specs.Bounds.{columns-max, rows-max}
 use Rattle.rules.specs.Bytes.{LF}
@@ -25,7 +27,6 @@ use Rattle.rules.specs.Matrix.{Matrix, Row, none-yet}
 use Rattle.rules.specs.Nets.{over}
 use Rattle.rules.specs.Print.{valueLine}
 use Rattle.rules.specs.Read.{Read, grown, isRowLine, isValueLine, lines, netsIn, read, readLines, readRows, rowIn, whole, wrong}
-use Rattle.text.proofs.Values.{all-append}
 use Rattle.text.specs.Calls.{readFrom}
 use Rattle.text.specs.Steps.{Cut, HeadFits, Stepped, lineAt}
 use Rattle.text.specs.Taken.{bare, rowTaken, valueTaken}
@@ -147,19 +148,6 @@ rowed-none h s at m e k =
       joins = refl;
     }
 
--- the line is a row's, and there is room for a row
-abbrev fits : List ℕ → List Row → List ℕ → Bool
-fits ns rs l = isRowLine (length ns) l && ltb (length rs) rows-max
-
-module _ (ns : List ℕ) (rs : List Row) (l : List ℕ) (ls : List (List ℕ)) where
-  rows-on : fits ns rs l ≡ true → readRows ns rs (l ∷ ls) ≡ readRows ns (rs ++ (rowIn l ∷ [])) ls
-  unfolding readRows
-  rows-on f = rw f
-
-  rows-off : fits ns rs l ≡ false → readRows ns rs (l ∷ ls) ≡ wrong (length rs + 2)
-  unfolding readRows
-  rows-off f = rw f
-
 and-off : (a b : Bool) → a ≡ false → (a && b) ≡ false
 and-off a b e = rw e
 
@@ -240,14 +228,6 @@ pub none-read : (s : List ℕ) → length s ≡ 0 → readMade (wrong 1) ≡ rea
 unfolding lines read readAnswer readLines
 none-read [] h = refl
 none-read (x ∷ s) h = absurd (omega arith)
-
-first-on : (l : List ℕ) (ls : List (List ℕ)) → isValueLine l ≡ true → readLines (l ∷ ls) ≡ readRows (netsIn l) [] ls
-unfolding readLines
-first-on l ls f = rw f
-
-first-off : (l : List ℕ) (ls : List (List ℕ)) → isValueLine l ≡ false → readLines (l ∷ ls) ≡ wrong 1
-unfolding readLines
-first-off l ls f = rw f
 
 first-few : (l : List ℕ) → isValueLine l ≡ true → length (netsIn l) ≤ columns-max
 unfolding isValueLine

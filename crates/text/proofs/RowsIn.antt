@@ -1,20 +1,23 @@
 -- A row's line is taken exactly if it is one: its trits and rules, taken loosely, print back to it. Assumes nothing.
-use Prim.Native.Nat.{ℕ, zero, suc, _+_, _-_, _/_, _%_, _≤_, _<_}
-use borrow.Author.Tests.{eq-eqb, eqb-false, eqb-true, le-leb, leb-true, ltb-true}
+use Prim.Native.Nat.{ℕ, zero, suc, _+_, _-_, _/_, _≤_, _<_}
+use borrow.Author.Tests.{eq-eqb, eqb-true, le-leb, leb-true, ltb-true}
 use lib.Dec.{eqb, leb}
 use lib.ListN.{List·getD-append, getD, length, length-append, length-reverse, take}
 use lib.Seq.{getD-append-add, getD-append-seam}
-use mathlib.Core.Bool.{Bool, true, false, not, cond, _&&_}
+use mathlib.Core.Bool.{Bool, true, false, cond, _&&_}
 use mathlib.Core.List.{List, [], _∷_, _++_, append-assoc, reverse, reverse-cons}
 use mathlib.Core.Path.{_≡_, refl, sym, ap, _∙_, subst}
 use native.Mathlib.Omega.{arith}
-use Rattle.lists.specs.Bools.{and-both, and-left, and-right, by-bool, not-is}
+use Rattle.lists.specs.Bools.{and-both, and-left, and-right, by-bool}
 use Rattle.lists.specs.Lists.{all, same, same-refl, same-true}
 use Rattle.lists.specs.Vec.{take-vec, vec}
+use Rattle.print.proofs.Rows.{arrow, margin, row-is}
+use Rattle.print.specs.Texts.{RowFits, trits}
 use Rattle.rows.specs.Rows.{rowFrom, view}
 use Rattle.rows.specs.declared.Row.{Row as Struct}
 use Rattle.rules.proofs.Accepts.{names-cells}
-use Rattle.rules.proofs.Words.{row-in}
+use Rattle.rules.proofs.Longest.{gap-no, gap-yes, grouped-long, row-few as line-few, row-max}
+use Rattle.rules.proofs.Words.{names-low, row-in}
 use Rattle.rules.specs.Bounds.{columns-max, rules-max}
 use Rattle.rules.specs.Bytes.{LF, byte, bytes}
 use Rattle.rules.specs.Given.{ascends, cells, goodRow}
@@ -25,13 +28,8 @@ use Rattle.rules.specs.Read.{isRowLine, rowIn, tritIn}
 use Rattle.rules.specs.Trits.{isTrit}
 use Rattle.sets.specs.Sets.{listOf}
 use Rattle.text.proofs.Nets.{scan-few, scan-printed, scan-stop, word-front}
-use Rattle.print.proofs.Prints.{names-low}
-use Rattle.print.proofs.Rows.{arrow, margin, row-is, row-long}
-use Rattle.text.proofs.Values.{nets-few}
-use Rattle.text.specs.Longs.{row-max, rules-long}
 use Rattle.text.specs.Scan.{figureOf, looseRow, patternAt, rulesAt, scanned, wordAt}
 use Rattle.text.specs.Taken.{bare, rowTaken}
-use Rattle.print.specs.Texts.{RowFits, trits}
 use Rattle.text.specs.declared.inner.scan.Word.{Word}
 
 -- ---- the trits, whatever the line
@@ -60,27 +58,6 @@ pattern-trits zero l = refl
 pattern-trits (suc k) l = and-both (isTrit (tritIn (getD l (2 + k + k / 4) 0))) (all isTrit (patternAt k l)) (trit-in (getD l (2 + k + k / 4) 0)) (pattern-trits k l)
 
 -- ---- the trits of a printed row
-
-gap-yes : (i : ℕ) → gap i ≡ true → i / 4 ≡ (i - 1) / 4 + 1
-gap-yes i h =
-    let a = eqb-true (i % 4) 0 (and-right (not (eqb i 0)) (eqb (i % 4) 0) h) in
-    let b = eqb-false i 0 (not-is (eqb i 0) (and-left (not (eqb i 0)) (eqb (i % 4) 0) h)) in
-    omega (arith, a, b)
-
-gap-no : (i : ℕ) → gap i ≡ false → i / 4 ≡ (i - 1) / 4
-gap-no i h =
-    by-bool (eqb i 0)
-    (λ p. let a = eqb-true i 0 p in omega (arith, a))
-    (λ p. let a = eqb-false (i % 4) 0 (rw p at h) in omega (arith, a))
-
-grouped-long : (i : ℕ) (ts : List ℕ) → length (grouped i ts) + (i - 1) / 4 ≡ length ts + (i + length ts - 1) / 4
-unfolding grouped
-grouped-long i [] = omega arith
-grouped-long i (t ∷ ts) =
-    let r = grouped-long (suc i) ts in
-    by-bool (gap i)
-    (λ p. let g = gap-yes i p in rw p (omega (arith, g, r)))
-    (λ p. let g = gap-no i p in rw p (omega (arith, g, r)))
 
 below : (i j : ℕ) → i / 4 ≤ (suc i + j) / 4
 below i j = omega arith
@@ -226,11 +203,6 @@ module _ (w : ℕ) (l : List ℕ) where
       let m = n ∙ sym (pattern-long w l) in
       λ i. record { pattern = p i; len = m i; rules = record { items = r i; count = c i } }
 
-pub rules-few : (rs : List ℕ) → length rs ≤ rules-max → length (ruleText rs) ≤ rules-long
-unfolding bytes ruleText
-rules-few [] h = omega arith
-rules-few (n ∷ ns) h = omega (arith, nets-few (n ∷ ns))
-
 -- the struct of what was taken
 module _ (w : ℕ) (l : List ℕ) (s : Struct) (few : w ≤ columns-max) (e : s ≡ rowFrom (looseRow w l)) where
   pub struct-row : view s ≡ looseRow w l
@@ -254,10 +226,8 @@ module _ (w : ℕ) (l : List ℕ) (s : Struct) (few : w ≤ columns-max) (e : s 
       }
 
   pub row-few : length (rowLine (view s)) ≤ row-max
-  unfolding looseRow trits
-  row-few =
-      let q = looseRow w l in
-      omega (arith, ap (λ (x : Row). length (rowLine x)) struct-row, row-long (q .pattern) (q .rules), grouped-long 0 (reverse (q .pattern)), length-reverse (q .pattern), pattern-long w l, rules-few (q .rules) (scan-few rules-max l (rulesAt w)))
+  unfolding looseRow
+  row-few = subst (λ (q : Row). length (rowLine q) ≤ row-max) (sym struct-row) (line-few (looseRow w l) (omega (arith, pattern-long w l)) (scan-few rules-max l (rulesAt w)))
 
   pub row-yes : all isName (listOf (s .rules)) ≡ true → ascends (cells (listOf (s .rules))) ≡ true → rowLine (view s) ≡ l → record { fine = true; row = s } ≡ rowTaken w l
   unfolding rowTaken

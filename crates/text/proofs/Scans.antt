@@ -8,13 +8,12 @@ use mathlib.Core.List.{List, [], _∷_, _++_}
 use mathlib.Core.Path.{_≡_, sym, ap, _∙_}
 use native.Mathlib.Omega.{arith}
 use Rattle.lists.specs.Bools.{by-bool}
-use Rattle.rules.proofs.Digits.{by-order}
+use Rattle.rules.proofs.Digits.{by-order, digits-1, digits-2, digits-3, digits-4}
+use Rattle.rules.proofs.Longest.{net-long}
 use Rattle.rules.specs.Bounds.{mux-first}
 use Rattle.rules.specs.Bytes.{byte}
 use Rattle.rules.specs.Nets.{cell, first-mux}
 use Rattle.rules.specs.Print.{digit, digits}
-use Rattle.print.proofs.Numbers.{digits-1, digits-2, digits-3, digits-4}
-use Rattle.text.specs.Longs.{net-long}
 use Rattle.text.specs.Scan.{cellAt, cellOf, figureOf, noWord, wordAt}
 
 -- ---- figures

@@ -12,7 +12,9 @@ use native.Mathlib.Numerals.{add-one}
 use native.Mathlib.Omega.{arith}
 use Rattle.lists.specs.Bools.{and-left, and-right}
 use Rattle.lists.specs.Lists.{all}
+use Rattle.print.proofs.Prints.{put-front}
 use Rattle.rules.proofs.Stores.{fine-fit}
+use Rattle.rules.proofs.Words.{names-low}
 use Rattle.rules.specs.Answers.{printTreeAfter, printTreeAnswer}
 use Rattle.rules.specs.Bounds.{node-run, nodes-max, rules-max}
 use Rattle.rules.specs.Given.{ascends}
@@ -23,7 +25,6 @@ use Rattle.rules.specs.Refuse.{FORM, ROOM, done, refused}
 use Rattle.rules.specs.Store.{isNone, treeAt}
 use Rattle.rules.specs.Tree.{Fit, Tree, fine, leaf, node, size}
 use Rattle.text.proofs.Lays.{arm-leaf, branch-long, end-few, head-few, indent-long, laid-as, laid-then}
-use Rattle.print.proofs.Prints.{names-low, put-front}
 use Rattle.text.specs.Longs.{line-max, tree-max}
 use Rattle.text.specs.Trees.{Laid, LeafFits, branchLine, lastRules, ruleEnd}
 use Rattle.tree.proofs.Handed.{handed-ends, tree-handed}

@@ -1,34 +1,34 @@
 -- A value line is taken exactly if it is one: its nets, taken loosely, print back to it. Assumes nothing.
-use Prim.Native.Nat.{ℕ, zero, suc, _+_, _-_, _*_, _≤_, _<_}
+use Prim.Native.Nat.{ℕ, zero, suc, _+_, _-_, _≤_, _<_}
 use borrow.Author.Tests.{le-leb, leb-true}
-use lib.Dec.{leb, ltb}
-use lib.ListN.{drop, drop-of-length-le, getD, length, length-append, length-drop, length-reverse, replicate, set, take, take-append-drop}
+use lib.Dec.{leb}
+use lib.ListN.{drop, drop-of-length-le, getD, length, length-drop, length-reverse, replicate, set, take, take-append-drop}
 use lib.Seq.{length-take-le, take-all, take-at}
 use mathlib.Core.Bool.{Bool, true, false, not, cond, _&&_}
-use mathlib.Core.List.{List, [], _∷_, _++_, reverse, reverse-cons, reverse-reverse}
+use mathlib.Core.List.{List, [], _∷_, _++_, reverse, reverse-reverse}
 use mathlib.Core.Path.{_≡_, refl, sym, ap, ap₂, _∙_, subst}
 use native.Mathlib.Omega.{arith}
 use Rattle.lists.specs.Bools.{and-both, and-left, and-right, by-bool, clash}
 use Rattle.lists.specs.Lists.{all, same, same-refl, same-true}
 use Rattle.lists.specs.Vec.{fill, length-vec, take-vec, vec}
+use Rattle.print.proofs.Numbers.{reverse-take}
+use Rattle.print.proofs.Rows.{closing, value-is}
+use Rattle.print.specs.Texts.{downs}
 use Rattle.rows.specs.Rows.{netsFrom}
 use Rattle.rows.specs.declared.Nets.{Nets}
-use Rattle.rules.proofs.Words.{nets-in}
+use Rattle.rules.proofs.Longest.{value-few, value-max}
+use Rattle.rules.proofs.Words.{all-reverse, nets-in}
 use Rattle.rules.specs.Bounds.{columns-max, rules-max}
 use Rattle.rules.specs.Bytes.{byte, bytes}
-use Rattle.rules.specs.Nets.{isCell, number, over}
-use Rattle.rules.specs.Print.{digits, net, nets, ruleText, valueLine}
+use Rattle.rules.specs.Nets.{over}
+use Rattle.rules.specs.Print.{nets, ruleText, valueLine}
 use Rattle.rules.specs.Read.{isValueLine, netsIn}
 use Rattle.rules.specs.Refusals.{allLow}
 use Rattle.sets.specs.Sets.{rulesFrom}
 use Rattle.sets.specs.declared.Rules.{Rules}
 use Rattle.text.proofs.Nets.{scan-few, scan-low, scan-printed, scan-stop, word-front}
-use Rattle.print.proofs.Numbers.{reverse-take}
-use Rattle.print.proofs.Rows.{closing, value-is, value-long}
-use Rattle.text.specs.Longs.{net-long, value-max}
 use Rattle.text.specs.Scan.{figureOf, looseNets, scanned, wordAt}
 use Rattle.text.specs.Taken.{valueTaken}
-use Rattle.print.specs.Texts.{downs}
 use Rattle.text.specs.Trees.{ruleEnd}
 use Rattle.text.specs.declared.inner.scan.Word.{Word}
 
@@ -69,17 +69,6 @@ vec-drop (suc n) (x ∷ l) h = ap (λ (k : List ℕ). x ∷ k) (vec-drop n l (om
 pub loose-few : (l : List ℕ) → length (looseNets l) ≤ columns-max
 unfolding looseNets
 loose-few l = omega (arith, length-reverse (scanned columns-max l 1), scan-few columns-max l 1)
-
-pub all-append : (p : ℕ → Bool) (xs ys : List ℕ) → all p xs ≡ true → all p ys ≡ true → all p (xs ++ ys) ≡ true
-all-append p [] ys h k = k
-all-append p (x ∷ xs) ys h k =
-    and-both (p x) (all p (xs ++ ys)) (and-left (p x) (all p xs) h) (all-append p xs ys (and-right (p x) (all p xs) h) k)
-
-all-reverse : (p : ℕ → Bool) (xs : List ℕ) → all p xs ≡ true → all p (reverse xs) ≡ true
-all-reverse p [] h = refl
-all-reverse p (x ∷ xs) h =
-    let r = all-reverse p xs (and-right (p x) (all p xs) h) in
-    rw (reverse-cons x xs) (all-append p (reverse xs) (x ∷ []) r (and-both (p x) true (and-left (p x) (all p xs) h) refl))
 
 pub loose-low : (l : List ℕ) → allLow (looseNets l) ≡ true
 unfolding looseNets
@@ -153,28 +142,6 @@ module _ (l : List ℕ) (ns : Nets) (e : ns ≡ netsFrom (looseNets l)) where
   value-no p =
       let f : false ≡ isValueLine l = by-bool (isValueLine l) (λ b. absurd (p (ap valueLine struct-nets ∙ value-back l b))) (λ b. sym b) in
       λ i. record { fine = f i; nets = netsFrom (cond (f i) (netsIn l) []) }
-
--- ---- how long a value line is at most
-
-digits-few : (n : ℕ) → length (digits n) ≤ 4
-unfolding digits
-digits-few n =
-    by-bool (ltb n 10) (λ p. rw p (omega arith))
-    (λ p. rw p (by-bool (ltb n 100) (λ q. rw q (omega arith))
-    (λ q. rw q (by-bool (ltb n 1000) (λ r. rw r (omega arith)) (λ r. rw r (omega arith))))))
-
-pub net-few : (n : ℕ) → length (net n) < net-long
-unfolding net
-net-few n = let d = digits-few (number n) in by-bool (isCell n) (λ p. rw p (omega arith)) (λ p. rw p (omega arith))
-
-pub nets-few : (ns : List ℕ) → length (nets ns) ≤ net-long * length ns
-unfolding nets
-nets-few [] = omega arith
-nets-few (n ∷ ns) = omega (arith, net-few n, nets-few ns, length-append (byte " " ∷ net n) (nets ns))
-
-pub value-few : (ns : List ℕ) → length ns ≤ columns-max → length (valueLine ns) ≤ value-max
-unfolding downs
-value-few ns h = omega (arith, nets-few (reverse ns), length-reverse ns, value-long ns)
 
 -- ---- rules, taken into a fresh array
 

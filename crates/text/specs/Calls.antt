@@ -3,8 +3,8 @@ use Prim.Native.Nat.{ℕ}
 use Rattle.matrix.specs.Mat.{from}
 use Rattle.rules.specs.Answers.{ReadMade as ReadMadeOf}
 use Rattle.rules.specs.Refuse.{Outcome, done, refused}
-use Rattle.text.specs.declared.Printed.{Printed}
 use Rattle.text.specs.declared.Printed.the-variants.{Done, Refused}
+use Rattle.text.specs.declared.Printed.{Printed}
 use Rattle.text.specs.declared.ReadMade.{ReadMade}
 
 abbrev pub printedRead : Printed → Outcome ℕ

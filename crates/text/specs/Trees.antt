@@ -4,6 +4,7 @@ use lib.ListN.{drop, length, take}
 use mathlib.Core.Bool.{true}
 use mathlib.Core.List.{List, [], _∷_, _++_, map}
 use mathlib.Core.Path.{_≡_}
+use Rattle.print.specs.Put.{Room, putAt}
 use Rattle.rules.specs.Bounds.{node-run, rules-max}
 use Rattle.rules.specs.Bytes.{LF}
 use Rattle.rules.specs.Nets.{cell, first-mux}
@@ -11,7 +12,6 @@ use Rattle.rules.specs.Print.{arm, armHead, ruleText}
 use Rattle.rules.specs.Refusals.{allLow}
 use Rattle.rules.specs.Tree.{Tree}
 use Rattle.text.specs.Longs.{tree-max}
-use Rattle.print.specs.Put.{Room, putAt}
 use Rattle.tree.specs.Form.{Ends}
 
 -- bs is counted from index at, and is put there if it fits; if not, no more is said of the bytes

@@ -51,10 +51,3 @@ module _ (t : Tree) (xs ys zs : List ℕ) (k : ℕ) (e : k ≡ node-run * used x
       let front : take (node-run * s) (ys ++ drop k xs) ≡ encode (reduce t) = take-append-le (node-run * s) ys (drop k xs) (omega (arith, room)) ∙ w .at in
       made (omega (arith, room)) (sym q ∙ d) (rw (front, untouched s w1, cleared-after s w1 c, w .is))
   whole-made r p s (short g d) q c = let z : _≡_ {A = ℕ} 0 1 = cc in absurd (omega arith)
-
--- the promise fixes the answer and the store
-pub whole-one : (t : Tree) (xs ys vs : List ℕ) (r q : Built) → Whole t xs ys r → Whole t xs vs q → (r ≡ q) × (ys ≡ vs)
-whole-one t xs ys vs r q (made a b c) (made d e f) = (b ∙ sym e, c ∙ sym f)
-whole-one t xs ys vs r q (made a b c) (refused d e f) = absurd (omega arith)
-whole-one t xs ys vs r q (refused a b c) (made d e f) = absurd (omega arith)
-whole-one t xs ys vs r q (refused a b c) (refused d e f) = (b ∙ sym e, c ∙ sym f)

@@ -11,14 +11,13 @@ use lib.ListN.{drop, getD, length, length-append, length-drop, length-map, lengt
 use lib.Seq.{drop-append-add, drop-at, drop-cons, getD-append-add, length-take-le, take-add, take-all, take-at}
 use Rattle.lists.specs.Bools.{and-both, and-left, and-right}
 use Rattle.lists.specs.Lists.{all}
-use Rattle.rules.proofs.Stores.{Cells, encode-length, fine-cells, fine-fit, fine-one, fine-zero}
+use Rattle.rules.proofs.Stores.{Cells, cells-back, encode-length, fine-cells, fine-fit, fine-one, fine-zero}
 use Rattle.rules.proofs.Trees.{size-pos}
 use Rattle.rules.specs.Bounds.{cell-max, node-run, rules-max}
 use Rattle.rules.specs.Given.{ascends}
 use Rattle.rules.specs.Nets.{cell, isName, number}
 use Rattle.rules.specs.Store.{encode, nodeRun}
 use Rattle.rules.specs.Tree.{Tree, fine, leaf, node, size, untested}
-use Rattle.tree.proofs.Laws.{cells-back}
 use Rattle.tree.proofs.Named.{name-cell}
 use Rattle.tree.proofs.Tails.{ends-run, leaf-few, leaf-head, node-end}
 use Rattle.tree.proofs.Tested.{none-both}

@@ -2,7 +2,7 @@
 use Prim.Native.Nat.{ℕ, _+_, _*_, _-_, _≤_, _<_}
 use mathlib.Core.Bool.{Bool, true, false, cond}
 use mathlib.Core.List.{List, _++_}
-use mathlib.Core.Path.{_≡_, refl, sym, ap, _∙_}
+use mathlib.Core.Path.{_≡_, refl, ap, _∙_}
 use native.Mathlib.Omega.{arith}
 use lib.ListN.{drop, length, take}
 use lib.Seq.{drop-at, length-take-le, take-at}
@@ -37,13 +37,6 @@ took t xs ys r p s (short h e) q = let z : _≡_ {A = ℕ} 0 1 = cc in absurd (o
 pub gave-up : (t : Tree) (xs ys : List ℕ) (r : Built) (n : ℕ) → Grown t xs ys r → r ≡ Refused n → length xs < node-run * peak t
 gave-up t xs ys r n (built h e a) q = let z : _≡_ {A = ℕ} 0 1 = cc in absurd (omega arith)
 gave-up t xs ys r n (short h e) q = h
-
--- the promise fixes the answer
-pub grown-one : (t : Tree) (xs ys vs : List ℕ) (r q : Built) → Grown t xs ys r → Grown t xs vs q → r ≡ q
-grown-one t xs ys vs r q (built a b c) (built d e f) = b ∙ sym e
-grown-one t xs ys vs r q (built a b c) (short d e) = absurd (omega arith)
-grown-one t xs ys vs r q (short a b) (built d e f) = absurd (omega arith)
-grown-one t xs ys vs r q (short a b) (short d e) = b ∙ sym e
 
 -- ---- a leaf
 

@@ -7,7 +7,6 @@ use native.Mathlib.Numerals.{add-one, one-add}
 use native.Mathlib.Omega.{arith}
 use lib.ListN.{drop, drop-of-length-le, getD, getD-replicate, length, length-drop, length-map, length-take, List·getD-map, replicate, set, take}
 use lib.Seq.{ext-getD, getD-drop, getD-take, length-take-le, paste, paste-suc}
-use Rattle.rules.proofs.Stores.{AllCells}
 use Rattle.rules.specs.Bounds.{node-run, rules-max}
 use Rattle.rules.specs.Nets.{cell, number}
 use Rattle.rules.specs.Store.{leafRun, nodeRun}
@@ -100,13 +99,3 @@ zeros-all (x ∷ xs) f = ap₂ _∷_ (f 0 (omega arith)) (zeros-all xs (λ k h. 
 
 pub zeros-not : (xs : List ℕ) (i : ℕ) → i < length xs → (getD xs i 0 ≡ 0 → ⊥) → xs ≡ replicate (length xs) 0 → ⊥
 zeros-not xs i h ne e = ne (ap (λ (l : List ℕ). getD l i 0) e ∙ getD-replicate (length xs) i 0 0 h)
-
--- ---- the numbers of rules, and the rules
-
-pub cells-back : (rs : List ℕ) → AllCells rs → map cell (map number rs) ≡ rs
-unfolding AllCells
-cells-back [] h = refl
-cells-back (r ∷ rs) h =
-    let p : cell (number r) ≡ r = omega (arith, h .0) in
-    let q : map cell (map number rs) ≡ rs = cells-back rs (h .1) in
-    cc

@@ -1,6 +1,6 @@
 -- The rules of a leaf as a loop tests them: each from the one after the last up to the last allowed. Assumes nothing.
 use Prim.Native.Nat.{ℕ, _+_, _≤_, _<_}
-use mathlib.Core.Bool.{Bool, true, false, not, _&&_}
+use mathlib.Core.Bool.{Bool, true, false, not, _&&_, and-assoc}
 use mathlib.Core.List.{List, [], _∷_, map}
 use mathlib.Core.Path.{_≡_, refl, sym}
 use native.Mathlib.Numerals.{add-one}
@@ -40,10 +40,6 @@ turn false true true d = refl
 turn false true false d = refl
 turn false false c d = refl
 
-assoc : (a b c : Bool) → (a && (b && c)) ≡ ((a && b) && c)
-assoc true b c = refl
-assoc false b c = refl
-
 named-above : (b : ℕ) (l : List ℕ) → named (b + 1) l ≡ (all isName (map cell l) && above (cell b) (map cell l))
 unfolding named above
 named-above b [] = refl
@@ -56,7 +52,7 @@ unfolding named ascends above
 named-is [] = refl
 named-is (n ∷ l) =
     let z : ltb n 0 ≡ false = le-ltb n 0 (omega arith) in
-    rw (z, sym (name-cell n), named-above n l) (assoc (isName (cell n)) (all isName (map cell l)) (above (cell n) (map cell l)))
+    rw (z, sym (name-cell n), named-above n l) (sym (and-assoc (isName (cell n)) (all isName (map cell l)) (above (cell n) (map cell l))))
 
 -- ---- a turn of the loop, a stop, the end
 

@@ -5,13 +5,12 @@ use mathlib.Core.Path.{_≡_, refl, sym, ap, ap₂, _∙_}
 use native.Mathlib.Omega.{arith}
 use lib.ListN.{drop, getD, length, length-append, length-map, replicate, take}
 use lib.Seq.{drop-at, drop-drop, getD-append-add, take-at}
-use Rattle.rules.proofs.Stores.{Cells, encode-length, fine-cells, fine-fit, fine-one, fine-zero}
+use Rattle.rules.proofs.Stores.{Cells, cells-back, encode-length, fine-cells, fine-fit, fine-one, fine-zero}
 use Rattle.rules.proofs.Trees.{size-pos}
 use Rattle.rules.specs.Bounds.{node-run, rules-max}
 use Rattle.rules.specs.Nets.{cell, number}
 use Rattle.rules.specs.Store.{encode, leafRun, nodeRun}
 use Rattle.rules.specs.Tree.{Fit, Tree, leaf, node, size}
-use Rattle.tree.proofs.Laws.{cells-back}
 use Rattle.tree.specs.Form.{Ends, RootOf}
 use Rattle.tree.specs.declared.inner.Root.the-variants.{Branch, Leaf}
 

@@ -11,14 +11,14 @@ use Rattle.rules.specs.Refusals.{treeIn}
 use Rattle.rules.specs.Store.{treeAt}
 use Rattle.text.proofs.Trees.{CanWalk, can-walk, root-in, tree-done, tree-form, tree-full, tree-in}
 use Rattle.tree.proofs.Handed.{handed-ends}
-use Rattle.tree.specs.Form.{Ends}
+use Rattle.tree.proofs.Handed.{tree-seen, tree-unseen}
 use Rattle.text.proofs.print_tree.Statement.{statement}
 use Rattle.text.proofs.print_tree.Tie as tie
 use Rattle.text.proofs.print_tree.Reads as reads
 use Rattle.text.proofs.print_tree.Lts as lts
 use Rattle.text.proofs.inner.trees.whole.Reads as whole-reads
 use Rattle.tree.proofs.check.Reads as check-reads
-use Rattle.tree.proofs.Handed.{tree-seen, tree-unseen}
+use Rattle.tree.specs.Form.{Ends}
 
 -- what is asked and learnt of each callee
 abbrev calls : lts.Claims

@@ -3,10 +3,10 @@ use borrow.Author.Needs.{needs}
 use lib.ListN.{length, take}
 use mathlib.Core.Path.{_≡_}
 use native.Mathlib.Omega.{arith}
-use Rattle.muxes.proofs.Spans.{copy-end, copy-turn}
+use Rattle.lists.specs.Vec.{vec, vec-none}
 use Rattle.muxes.proofs.inner.copy.Statement.{statement}
 use Rattle.muxes.proofs.inner.copy.Tie as tie
-use Rattle.lists.specs.Vec.{vec, vec-none}
+use Rattle.muxes.proofs.Spans.{copy-end, copy-turn}
 use Rattle.rules.specs.Bounds.{width-max}
 
 abbrev Inv-loop : tie.InvT-loop

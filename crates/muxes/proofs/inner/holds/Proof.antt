@@ -2,10 +2,10 @@ use Prim.Native.Nat.{_-_}
 use borrow.Author.Needs.{needs}
 use lib.ListN.{drop, length}
 use mathlib.Core.Path.{_≡_, refl, sym, _∙_}
-use Rattle.muxes.proofs.Leaves.{held, held-next, held-none}
+use Rattle.lists.specs.Lists.{mem}
 use Rattle.muxes.proofs.inner.holds.Statement.{statement}
 use Rattle.muxes.proofs.inner.holds.Tie as tie
-use Rattle.lists.specs.Lists.{mem}
+use Rattle.muxes.proofs.Leaves.{held, held-next, held-none}
 
 abbrev Inv-loop : tie.InvT-loop
 Inv-loop nets net i₀ i = mem net (drop i nets) ≡ mem net nets

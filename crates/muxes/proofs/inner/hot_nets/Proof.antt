@@ -5,10 +5,10 @@ use mathlib.Core.Bool.{Bool}
 use mathlib.Core.List.{map}
 use mathlib.Core.Path.{_≡_, ap, _∙_}
 use native.Mathlib.Omega.{arith}
-use Rattle.muxes.proofs.Hots.{hot-end, hot-turn}
+use Rattle.lists.specs.Vec.{vec, vec-none}
 use Rattle.muxes.proofs.inner.hot_nets.Statement.{statement}
 use Rattle.muxes.proofs.inner.hot_nets.Tie as tie
-use Rattle.lists.specs.Vec.{vec, vec-none}
+use Rattle.muxes.proofs.Hots.{hot-end, hot-turn}
 use Rattle.rules.specs.Bounds.{width-max}
 use Rattle.rules.specs.Emit.{oneHot}
 use Rattle.rules.specs.Nets.{cell}

@@ -3,10 +3,10 @@ use borrow.Author.Needs.{needs}
 use lib.ListN.{length, take}
 use mathlib.Core.Path.{_≡_, refl, ap, _∙_}
 use native.Mathlib.Omega.{arith}
-use Rattle.muxes.proofs.Puts.{nets-start, joins-nets, joins-put, joins-start}
+use Rattle.lists.specs.Vec.{vec}
 use Rattle.muxes.proofs.inner.join.Statement.{statement}
 use Rattle.muxes.proofs.inner.join.Tie as tie
-use Rattle.lists.specs.Vec.{vec}
+use Rattle.muxes.proofs.Puts.{nets-start, joins-nets, joins-put, joins-start}
 use Rattle.rules.specs.Bounds.{width-max}
 use Rattle.rules.specs.Closed.{branch, drives}
 use Rattle.rules.specs.Emit.{appended}

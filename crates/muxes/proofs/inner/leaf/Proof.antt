@@ -2,10 +2,10 @@ use Prim.Native.Nat.{ℕ}
 use borrow.Author.Needs.{needs}
 use mathlib.Core.List.{List}
 use mathlib.Core.Path.{ap, _∙_}
-use Rattle.muxes.proofs.Spans.{leaf-slice}
+use Rattle.lists.specs.Vec.{vec}
 use Rattle.muxes.proofs.inner.leaf.Statement.{statement}
 use Rattle.muxes.proofs.inner.leaf.Tie as tie
-use Rattle.lists.specs.Vec.{vec}
+use Rattle.muxes.proofs.Spans.{leaf-slice}
 use Rattle.rules.specs.Bounds.{width-max}
 use Rattle.rules.specs.Emit.{disjoint, oneHot, updatesOf}
 

@@ -3,10 +3,10 @@ use borrow.Author.Needs.{needs}
 use lib.ListN.{drop, length}
 use mathlib.Core.List.{map}
 use mathlib.Core.Path.{_≡_, refl, sym, _∙_}
-use Rattle.muxes.proofs.Hots.{mem-found, mem-next, mem-none}
+use Rattle.lists.specs.Lists.{mem}
 use Rattle.muxes.proofs.inner.names.Statement.{statement}
 use Rattle.muxes.proofs.inner.names.Tie as tie
-use Rattle.lists.specs.Lists.{mem}
+use Rattle.muxes.proofs.Hots.{mem-found, mem-next, mem-none}
 use Rattle.rules.specs.Nets.{cell}
 
 abbrev Inv-loop : tie.InvT-loop

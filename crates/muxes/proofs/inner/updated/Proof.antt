@@ -4,10 +4,10 @@ use lib.ListN.{length}
 use mathlib.Core.List.{List, map}
 use mathlib.Core.Path.{ap, _∙_}
 use native.Mathlib.Omega.{arith}
-use Rattle.muxes.proofs.Spans.{span-bits, span-default}
+use Rattle.lists.specs.Vec.{vec}
 use Rattle.muxes.proofs.inner.updated.Statement.{statement}
 use Rattle.muxes.proofs.inner.updated.Tie as tie
-use Rattle.lists.specs.Vec.{vec}
+use Rattle.muxes.proofs.Spans.{span-bits, span-default}
 use Rattle.rules.specs.Bounds.{width-max}
 use Rattle.rules.specs.Nets.{cell}
 

@@ -7,8 +7,8 @@ use Prim.Native.Nat.{_-_, _≤_}
 use Rattle.lists.specs.Vec.{fill, vec, vec-none}
 use Rattle.rows.proofs.inner.tidy_rules.Statement.{statement}
 use Rattle.rows.proofs.inner.tidy_rules.Tie as tie
-use Rattle.rows.proofs.Laws.{rules-path}
 use Rattle.rules.specs.Bounds.{rules-max}
+use Rattle.sets.proofs.Unions.{rules-path}
 
 abbrev Inv-loop : tie.InvT-loop
 Inv-loop r n made₀ i₀ made i = (i ≤ n) × (n ≡ r .count) × (made ≡ vec rules-max 0 (take i (r .items)))

@@ -3,6 +3,7 @@ use lib.ListN.{drop, length}
 use mathlib.Core.Path.{_∙_, _≡_, ap, sym}
 use native.Mathlib.Omega.{arith}
 use Prim.Native.Nat.{_*_, _+_, _-_, _≤_, ℕ}
+use Rattle.matrix.proofs.Calls.{view-rows-length}
 use Rattle.matrix.proofs.inner.merge.count_rows.Statement.{statement}
 use Rattle.matrix.proofs.inner.merge.count_rows.Tie as tie
 use Rattle.matrix.proofs.MergeCount.{length-merge, shares, shares-end, shares-more}
@@ -17,14 +18,14 @@ Inv-loop t m n k total₀ i₀ total i =
 abbrev μ-loop : tie.MeasureT-loop
 μ-loop t m n k total₀ i₀ total i = n - i
 
-used-requires : tie.Need-used-requires Inv-loop μ-loop
-used-requires c κs = search needs
+rows-used-requires : tie.Need-rows-used-requires Inv-loop μ-loop
+rows-used-requires c κs = search needs
 
-used-requires-2 : tie.Need-used-requires-2 Inv-loop μ-loop
-used-requires-2 c κs = search needs
+rows-used-requires-2 : tie.Need-rows-used-requires-2 Inv-loop μ-loop
+rows-used-requires-2 c κs = search needs
 
 loop-holds : tie.Need-loop-holds Inv-loop μ-loop
-loop-holds c = (search needs, c .before .used .ensures .0, c .before .used .ensures .1, c .used2 .ensures .0, search needs, omega arith)
+loop-holds c = (search needs, c .before .rows-used .ensures .0, c .before .rows-used .ensures .1 ∙ sym (view-rows-length (c .before .before .args .t1)), c .rows-used2 .ensures .0, search needs, omega arith)
 
 mul-row : tie.Need-mul-row Inv-loop μ-loop
 mul-row c = search needs
@@ -49,7 +50,7 @@ loop-again c =
     let at = c .before .before .before .before in
     let s = at .before .before .before in
     let v = at .loop .inv in
-    let k = at .before .used2 .result in
+    let k = at .before .rows-used2 .result in
     let rs = view (s .args .t1) .rows in
     let d : shares (s .args .t) k (drop (at .loop .i) rs) ≡ c .share .result + shares (s .args .t) k (drop (at .loop .i + 1) rs) =
     shares-more (s .args .t) k (s .args .t1) (at .loop .i) (omega arith) ∙ ap (λ (x : ℕ). x + shares (s .args .t) k (drop (at .loop .i + 1) rs)) (sym (c .share .ensures .0)) in
@@ -60,10 +61,10 @@ returns c =
     let at = c .before in
     let s = at .before .before .before in
     let v = at .loop .inv in
-    let k = at .before .used2 .result in
+    let k = at .before .rows-used2 .result in
     let z = shares-end (s .args .t) k (view (s .args .t1) .rows) (at .loop .i) (omega arith) in
     let e : at .loop .total ≡ shares (s .args .t) k (view (s .args .t1) .rows) = omega arith in
-    e ∙ ap (λ (j : ℕ). shares (s .args .t) j (view (s .args .t1) .rows)) (at .before .used2 .ensures .1) ∙ length-merge (s .args .t) (view (s .args .child)) (view (s .args .t1) .rows)
+    e ∙ ap (λ (j : ℕ). shares (s .args .t) j (view (s .args .t1) .rows)) (at .before .rows-used2 .ensures .1 ∙ sym (view-rows-length (s .args .child))) ∙ length-merge (s .args .t) (view (s .args .child)) (view (s .args .t1) .rows)
 
 pub count-rows-spec : {M : Type 1} → statement M
 count-rows-spec =
@@ -71,8 +72,8 @@ count-rows-spec =
     (tie.spec
     Inv-loop
     μ-loop
-    used-requires
-    used-requires-2
+    rows-used-requires
+    rows-used-requires-2
     loop-holds
     mul-row
     element-copy-out-row

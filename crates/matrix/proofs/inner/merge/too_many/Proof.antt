@@ -6,6 +6,7 @@ use mathlib.Core.Path.{_∙_, _≡_, ap, refl, sym}
 use native.Mathlib.Omega.{arith}
 use Prim.Native.Nat.{_-_, _≤_}
 use Rattle.lists.specs.Lists.{all}
+use Rattle.matrix.proofs.Calls.{view-rows-length}
 use Rattle.matrix.proofs.inner.merge.too_many.Statement.{statement}
 use Rattle.matrix.proofs.inner.merge.too_many.Tie as tie
 use Rattle.matrix.proofs.MergeCount.{few, many-end, many-more, many-stop}
@@ -20,11 +21,11 @@ Inv-loop t child m n i₀ i =
 abbrev μ-loop : tie.MeasureT-loop
 μ-loop t child m n i₀ i = n - i
 
-used-requires : tie.Need-used-requires Inv-loop μ-loop
-used-requires c κs = search needs
+rows-used-requires : tie.Need-rows-used-requires Inv-loop μ-loop
+rows-used-requires c κs = search needs
 
 loop-holds : tie.Need-loop-holds Inv-loop μ-loop
-loop-holds c = (search needs, c .used .ensures .0, c .used .ensures .1, refl)
+loop-holds c = (search needs, c .rows-used .ensures .0, c .rows-used .ensures .1 ∙ sym (view-rows-length (c .before .args .t1)), refl)
 
 mul-row : tie.Need-mul-row Inv-loop μ-loop
 mul-row c = search needs
@@ -70,7 +71,7 @@ too-many-spec =
     (tie.spec
     Inv-loop
     μ-loop
-    used-requires
+    rows-used-requires
     loop-holds
     mul-row
     element-copy-out-row

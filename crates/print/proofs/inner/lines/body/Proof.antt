@@ -3,12 +3,12 @@ use lib.ListN.{drop, getD, length, length-map, take}
 use lib.Seq.{length-take-le}
 use mathlib.Core.Path.{_≡_, sym, _∙_}
 use native.Mathlib.Omega.{arith}
-use Rattle.rows.specs.Rows.{view}
-use Rattle.rules.specs.Bounds.{rows-max}
-use Rattle.rules.specs.Print.{rowLine}
 use Rattle.print.proofs.Laws.{Todo, todo-all, todo-room, todo-more, todo-done, todo-as}
 use Rattle.print.proofs.Rows.{nothing, rest-end, rest-next, row-fits}
 use Rattle.print.specs.Texts.{rowsText}
+use Rattle.rows.specs.Rows.{view}
+use Rattle.rules.specs.Bounds.{rows-max}
+use Rattle.rules.specs.Print.{rowLine}
 use Rattle.print.proofs.inner.lines.body.Statement.{statement}
 use Rattle.print.proofs.inner.lines.body.Tie as tie
 use Rattle.print.proofs.inner.lines.body.Reads as reads

@@ -1,7 +1,7 @@
 use borrow.Author.Needs.{needs}
 use mathlib.Core.Path.{ap, _∙_}
-use Rattle.rules.specs.Print.{trit}
 use Rattle.print.proofs.Numbers.{trit-cut}
+use Rattle.rules.specs.Print.{trit}
 use Rattle.print.proofs.inner.lines.mask.Statement.{statement}
 use Rattle.print.proofs.inner.lines.mask.Tie as tie
 use Rattle.print.proofs.inner.lines.mask.Reads as reads

@@ -3,9 +3,9 @@ use denote.Ref.{now}
 use lib.ListN.{length}
 use mathlib.Core.Path.{ap, sym}
 use native.Mathlib.Omega.{arith}
-use Rattle.rules.specs.Bytes.{bytes}
 use Rattle.print.proofs.Laws.{put-as}
 use Rattle.print.proofs.Numbers.{rules-none, rules-some}
+use Rattle.rules.specs.Bytes.{bytes}
 use Rattle.print.proofs.inner.lines.names.Statement.{statement}
 use Rattle.print.proofs.inner.lines.names.Tie as tie
 use Rattle.print.proofs.inner.lines.names.Reads as reads

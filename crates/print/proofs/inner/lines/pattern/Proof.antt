@@ -3,10 +3,10 @@ use denote.Ref.{now}
 use lib.ListN.{getD, length, take}
 use mathlib.Core.List.{reverse}
 use native.Mathlib.Omega.{arith}
-use Rattle.rules.specs.Print.{grouped}
 use Rattle.print.proofs.Laws.{Todo, todo-all, todo-room, todo-more, todo-done, todo-as}
 use Rattle.print.proofs.Numbers.{marked-room, trits-end, trits-on, trits-start}
 use Rattle.print.specs.Texts.{marked, trits}
+use Rattle.rules.specs.Print.{grouped}
 use Rattle.print.proofs.inner.lines.pattern.Statement.{statement}
 use Rattle.print.proofs.inner.lines.pattern.Tie as tie
 use Rattle.print.proofs.inner.lines.pattern.Reads as reads

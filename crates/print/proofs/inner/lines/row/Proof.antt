@@ -3,9 +3,9 @@ use lib.ListN.{length, take}
 use lib.Seq.{length-take-le}
 use mathlib.Core.Path.{_≡_, sym}
 use native.Mathlib.Omega.{arith}
-use Rattle.rules.specs.Bounds.{columns-max, rules-max}
 use Rattle.print.proofs.Laws.{put-as, put-then}
 use Rattle.print.proofs.Rows.{row-is, row-long}
+use Rattle.rules.specs.Bounds.{columns-max, rules-max}
 use Rattle.print.proofs.inner.lines.row.Statement.{statement}
 use Rattle.print.proofs.inner.lines.row.Tie as tie
 use Rattle.print.proofs.inner.lines.row.Reads as reads

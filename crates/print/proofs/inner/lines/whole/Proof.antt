@@ -3,9 +3,9 @@ use lib.ListN.{length}
 use lib.Seq.{length-take-le}
 use mathlib.Core.Path.{_≡_, sym}
 use native.Mathlib.Omega.{arith}
-use Rattle.rules.specs.Bounds.{columns-max}
 use Rattle.print.proofs.Laws.{put-as, put-then}
 use Rattle.print.proofs.Rows.{printed-is, printed-long}
+use Rattle.rules.specs.Bounds.{columns-max}
 use Rattle.print.proofs.inner.lines.whole.Statement.{statement}
 use Rattle.print.proofs.inner.lines.whole.Tie as tie
 use Rattle.print.proofs.inner.lines.whole.Reads as reads

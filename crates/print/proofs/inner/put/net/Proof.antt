@@ -4,9 +4,9 @@ use lib.ListN.{length}
 use mathlib.Core.List.{[], _∷_}
 use mathlib.Core.Path.{ap, sym, _∙_}
 use native.Mathlib.Omega.{arith}
-use Rattle.rules.specs.Codes.{netCode}
 use Rattle.print.proofs.Laws.{put-as, put-then}
 use Rattle.print.proofs.Numbers.{net-const, net-is}
+use Rattle.rules.specs.Codes.{netCode}
 use Rattle.print.proofs.inner.put.net.Statement.{statement}
 use Rattle.print.proofs.inner.put.net.Tie as tie
 use Rattle.print.proofs.inner.put.net.Reads as reads

@@ -3,10 +3,10 @@ use borrow.Author.Needs.{needs}
 use denote.Ref.{now}
 use lib.ListN.{length, drop}
 use native.Mathlib.Omega.{arith}
-use Rattle.rules.specs.Print.{nets}
 use Rattle.print.proofs.Laws.{Todo, todo-all, todo-room, todo-more, todo-done, todo-as}
 use Rattle.print.proofs.Numbers.{low-at, nets-next, nets-end}
 use Rattle.print.specs.Texts.{spaced}
+use Rattle.rules.specs.Print.{nets}
 use Rattle.print.proofs.inner.put.nets.Statement.{statement}
 use Rattle.print.proofs.inner.put.nets.Tie as tie
 use Rattle.print.proofs.inner.put.nets.Reads as reads

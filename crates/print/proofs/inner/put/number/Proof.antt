@@ -4,9 +4,9 @@ use lib.ListN.{length}
 use mathlib.Core.List.{[], _∷_}
 use mathlib.Core.Path.{_≡_, ap, sym, _∙_}
 use native.Mathlib.Omega.{arith}
-use Rattle.rules.specs.Print.{digit}
 use Rattle.print.proofs.Laws.{put-as, put-then}
-use Rattle.print.proofs.Numbers.{digits-1, digits-2, digits-3, digits-4}
+use Rattle.rules.proofs.Digits.{digits-1, digits-2, digits-3, digits-4}
+use Rattle.rules.specs.Print.{digit}
 use Rattle.print.proofs.inner.put.number.Statement.{statement}
 use Rattle.print.proofs.inner.put.number.Tie as tie
 use Rattle.print.proofs.inner.put.number.Reads as reads

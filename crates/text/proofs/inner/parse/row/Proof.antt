@@ -5,9 +5,9 @@ use lib.Seq.{length-take-le}
 use mathlib.Core.Path.{sym, _∙_}
 use native.Mathlib.Omega.{arith}
 use Rattle.lists.specs.Bools.{clash}
+use Rattle.print.proofs.Prints.{take-put}
 use Rattle.rows.specs.Rows.{view}
 use Rattle.rules.specs.Print.{rowLine}
-use Rattle.print.proofs.Prints.{take-put}
 use Rattle.text.proofs.RowsIn.{row-few, row-fits-found, row-no, row-yes}
 use Rattle.text.proofs.inner.parse.row.Statement.{statement}
 use Rattle.text.proofs.inner.parse.row.Tie as tie

@@ -6,8 +6,8 @@ use mathlib.Core.Path.{sym, _∙_}
 use native.Mathlib.Omega.{arith}
 use Rattle.lists.specs.Bools.{clash}
 use Rattle.lists.specs.Vec.{vec}
-use Rattle.rules.specs.Print.{valueLine}
 use Rattle.print.proofs.Prints.{take-put}
+use Rattle.rules.specs.Print.{valueLine}
 use Rattle.text.proofs.Values.{struct-few, struct-low, struct-short, value-no, value-yes}
 use Rattle.text.proofs.inner.parse.value.Statement.{statement}
 use Rattle.text.proofs.inner.parse.value.Tie as tie

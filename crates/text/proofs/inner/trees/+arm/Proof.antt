@@ -11,16 +11,16 @@ use Rattle.rules.specs.Print.{arm as arm-of}
 use Rattle.rules.specs.Tree.{Tree}
 use Rattle.rules.specs.Trits.{bit}
 use Rattle.text.proofs.Trees.{branch-fits, laid-leaf, laid-node, leaf-read, level-fits, one-fits, zero-fits}
-use Rattle.text.proofs.inner.trees.arm.Kinds as arm-kinds
-use Rattle.tree.specs.Form.{Ends}
-use Rattle.text.proofs.inner.trees.+arm.Lts-arm as arm-lts
 use Rattle.text.proofs.inner.trees.+arm.Tie.{close}
 use Rattle.text.proofs.inner.trees.+arm.{statement}
+use Rattle.text.proofs.inner.trees.+arm.Lts-arm as arm-lts
+use Rattle.text.proofs.inner.trees.arm.Kinds as arm-kinds
 use Rattle.text.proofs.inner.trees.arm.Reads as arm
+use Rattle.tree.proofs.Splits.{Split, split}
 use Rattle.text.proofs.inner.trees.branch.Reads as branch-reads
 use Rattle.text.proofs.inner.trees.leaf.Reads as leaf-reads
 use Rattle.tree.proofs.inner.root_of.Reads as root-of-reads
-use Rattle.tree.proofs.Splits.{Split, split}
+use Rattle.tree.specs.Form.{Ends}
 
 abbrev μ-arm : Measures 2 arm-kinds.ps ℕ
 μ-arm κs a = length (a .0 .now)

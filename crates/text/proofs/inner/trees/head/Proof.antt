@@ -3,10 +3,10 @@ use borrow.Author.Needs.{needs}
 use mathlib.Core.List.{[], _∷_}
 use mathlib.Core.Path.{ap, sym}
 use native.Mathlib.Omega.{arith}
+use Rattle.print.proofs.Laws.{put-as, put-then}
 use Rattle.rules.specs.Bytes.{byte}
 use Rattle.rules.specs.Print.{net}
 use Rattle.rules.specs.Trits.{bit}
-use Rattle.print.proofs.Laws.{put-as, put-then}
 use Rattle.text.proofs.Lays.{head-is, head-long}
 use Rattle.text.proofs.inner.trees.head.Statement.{statement}
 use Rattle.text.proofs.inner.trees.head.Tie as tie

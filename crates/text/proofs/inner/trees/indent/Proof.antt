@@ -1,9 +1,9 @@
 use borrow.Author.Needs.{needs}
 use native.Mathlib.Omega.{arith}
-use Rattle.rules.specs.Print.{indent}
 use Rattle.print.proofs.Laws.{Todo, todo-all, todo-as, todo-done, todo-more, todo-room}
-use Rattle.text.proofs.Lays.{indent-more, indent-none}
 use Rattle.print.proofs.Rows.{margin}
+use Rattle.rules.specs.Print.{indent}
+use Rattle.text.proofs.Lays.{indent-more, indent-none}
 use Rattle.text.proofs.inner.trees.indent.Statement.{statement}
 use Rattle.text.proofs.inner.trees.indent.Tie as tie
 use Rattle.text.proofs.inner.trees.indent.Reads as reads

@@ -1,8 +1,8 @@
 use borrow.Author.Needs.{needs}
 use denote.Ref.{now}
 use native.Mathlib.Omega.{arith}
-use Rattle.rules.specs.Print.{indent}
 use Rattle.print.proofs.Laws.{put-then}
+use Rattle.rules.specs.Print.{indent}
 use Rattle.text.proofs.Lays.{indent-long, laid-put, laid-short, lay-long}
 use Rattle.text.proofs.inner.trees.lay.Statement.{statement}
 use Rattle.text.proofs.inner.trees.lay.Tie as tie

@@ -7,10 +7,10 @@ use mathlib.Core.List.{List}
 use mathlib.Core.Path.{ap, sym, _∙_}
 use native.Mathlib.Omega.{arith}
 use Rattle.lists.specs.Vec.{length-vec}
+use Rattle.print.proofs.Laws.{put-as, put-then}
 use Rattle.rules.specs.Bounds.{rules-max}
 use Rattle.rules.specs.Print.{ruleText}
 use Rattle.rules.specs.Refusals.{allLow}
-use Rattle.print.proofs.Laws.{put-as, put-then}
 use Rattle.text.proofs.Lays.{cells-few, end-long, last-is, nets-taken}
 use Rattle.text.specs.Trees.{lastRules}
 use Rattle.text.proofs.inner.trees.ruled.Statement.{statement}

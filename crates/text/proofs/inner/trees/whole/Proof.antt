@@ -8,7 +8,7 @@ use Rattle.rules.specs.Print.{printedTree}
 use Rattle.rules.specs.Tree.{Tree}
 use Rattle.text.proofs.Lays.{laid-as}
 use Rattle.text.proofs.Trees.{first-fits, laid-arms, leaf-read, second-fits}
-use Rattle.tree.specs.Form.{Ends}
+use Rattle.tree.proofs.Splits.{Split, split}
 use Rattle.text.proofs.inner.trees.whole.Statement.{statement}
 use Rattle.text.proofs.inner.trees.whole.Tie as tie
 use Rattle.text.proofs.inner.trees.whole.Reads as reads
@@ -16,7 +16,7 @@ use Rattle.text.proofs.inner.trees.whole.Lts as lts
 use Rattle.text.proofs.inner.trees.alone.Reads as alone-reads
 use Rattle.text.proofs.inner.trees.arm.Reads as arm-reads
 use Rattle.tree.proofs.inner.root_of.Reads as root-of-reads
-use Rattle.tree.proofs.Splits.{Split, split}
+use Rattle.tree.specs.Form.{Ends}
 
 -- what is asked and learnt of each callee
 abbrev calls : lts.Claims
