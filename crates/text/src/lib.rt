@@ -22,7 +22,7 @@ pub struct ReadMade {
 }
 
 // The bytes of the longest printed matrix.
-pub const TEXT_MAX: usize = 4773;
+pub const TEXT_MAX: usize = inner::parse::VALUE_MAX + rules::ROWS_MAX * inner::parse::ROW_MAX;
 
 pub fn print(matrix: matrix::Matrix, out: &mut [u8]) -> Printed
     ensures { λ r. ⌜ printedRead r ≡ printAnswer (given matrix) (now (out .entry)) ⌝ }

@@ -27,10 +27,19 @@ pub struct Taken {
     pub row: rows::Row,
 }
 
-// The bytes of the longest value line, and of the longest row's.
-const VALUE_MAX: usize = 101;
+// The bytes at most of a net and the space before it, of a line's rules, of a value line, and of a row's line.
+pub const NET_MAX: usize = 6;
 
-const ROW_MAX: usize = 73;
+pub const NAMES_MAX: usize = NET_MAX * rules::RULES_MAX;
+
+pub const VALUE_MAX: usize = 1 + NET_MAX * rules::COLUMNS_MAX + 4;
+
+pub const ROW_MAX: usize = 2
+    + rules::COLUMNS_MAX
+    + (rules::COLUMNS_MAX - 1) / 4
+    + 3
+    + NAMES_MAX
+    + 1;
 
 // A line has the highest column first.
 fn flip(v: [u16; rules::COLUMNS_MAX], n: usize) -> [u16; rules::COLUMNS_MAX]

@@ -1,4 +1,5 @@
 // The lines of a tree. A line is put only where it fits, so that the one walk counts on a buffer without room and writes into one with it.
+use crate::inner::parse;
 use print::inner::lines;
 use print::inner::put;
 use tree::inner::Root;
@@ -19,8 +20,8 @@ ghost use Rattle.text.specs.Longs.{tree-max};
 ghost use Rattle.text.specs.Trees.{CanLay, Laid, LeafFits, branchLine, lastRules, ruleEnd};
 ghost use Rattle.tree.specs.Form.{Ends, HasTree};
 
-// The bytes of the longest line after its indent.
-const LINE_MAX: usize = 61;
+// The bytes of the longest line after its indent: a net, ` = 0 =>`, rules and LF.
+const LINE_MAX: usize = parse::NET_MAX - 1 + 7 + parse::NAMES_MAX + 1;
 
 // Two spaces a level.
 fn indent(out: &mut [u8], at: usize, level: usize) -> usize
