@@ -37,6 +37,18 @@ fn code(name: &[u8], c: u16) {
     }
 }
 
+// The static library takes a trit as a number.
+fn assume(name: &[u8], value: u8) {
+    ask::text(name);
+    let m = text::read(b"[ %0 ]:\n  1 => %10\n").matrix;
+    let r = abi::doorpigeon_assume(m, 3, value);
+    if r.no != 0 {
+        ask::refused(r.no);
+        return;
+    }
+    ask::text(b"accepted\n");
+}
+
 pub(crate) fn all() {
     trit(b"trit 2: ", 2);
     trit(b"trit 3: ", 3);
@@ -44,4 +56,6 @@ pub(crate) fn all() {
     net(b"net 18195: ", 18195);
     code(b"code of %18191: ", 18191);
     code(b"code of %18192: ", 18192);
+    assume(b"assume trit 2: ", 2);
+    assume(b"assume trit 3: ", 3);
 }
