@@ -14,7 +14,7 @@ ghost use Rattle.tree.specs.Checked.{check_read};
 
 // 01's number, 0 where there is a tree; its root's place and its size, 0 where there is none.
 #[repr(C)]
-#[derive(Drop)]
+#[derive(Clone, Copy)]
 pub struct Dispatched {
     pub no: u8,
     pub root: usize,
@@ -23,7 +23,7 @@ pub struct Dispatched {
 
 // 01's number, 0 where accepted, and what is answered, 0 where nothing is: a size, a length, a trit's code.
 #[repr(C)]
-#[derive(Drop)]
+#[derive(Clone, Copy)]
 pub struct Answered {
     pub no: u8,
     pub value: usize,

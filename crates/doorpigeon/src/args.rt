@@ -26,7 +26,7 @@ pub const MERGE: u8 = 9;
 const NO: u8 = 0;
 
 // Words and files by the places of their arguments, 0 where there is none; nets by their codes; e, s and v where the option was given.
-#[derive(Drop)]
+#[derive(Clone, Copy)]
 pub struct Asked {
     pub wrong: bool,
     pub command: u8,

@@ -17,7 +17,7 @@ const TABLE: usize = evaluate::inner::MUX_RUN * rules::MUX_MAX;
 const TRITS: usize = rules::CELL_MAX as usize + 1;
 
 // Whether a text could be opened and read, and what the reader made of it.
-#[derive(Drop)]
+#[derive(Clone, Copy)]
 struct Opened {
     found: bool,
     read: text::ReadMade,

@@ -2,14 +2,14 @@
 ghost use Rattle.std.specs.Prelude.{◌≤◌, length};
 
 // Whether a word is a number, and the number; any over the last is the last.
-#[derive(Drop)]
+#[derive(Clone, Copy)]
 pub struct Number {
     pub fine: bool,
     pub value: u32,
 }
 
 // Whether a word is a net, and its code.
-#[derive(Drop)]
+#[derive(Clone, Copy)]
 pub struct Named {
     pub fine: bool,
     pub code: u16,

@@ -10,7 +10,7 @@ ghost use Rattle.rules.specs.Refuse.{refused};
 
 // The number, 0 where accepted; the nets of the value with 0 after them, how many, and the entries then in use.
 #[repr(C)]
-#[derive(Drop)]
+#[derive(Clone, Copy)]
 pub struct Emitted {
     pub no: u8,
     pub nets: [u16; rules::WIDTH_MAX],
@@ -18,7 +18,7 @@ pub struct Emitted {
     pub used: usize,
 }
 
-#[derive(Drop)]
+#[derive(Clone, Copy)]
 pub enum Together {
     Length(usize),
     Refused(u8),

@@ -14,7 +14,7 @@ ghost use Rattle.trits.specs.Codes.{cut};
 
 pub mod inner;
 
-#[derive(Drop)]
+#[derive(Clone, Copy)]
 pub enum Value {
     Trit(rules::Trit),
     Refused(u8),

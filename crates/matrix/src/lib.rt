@@ -7,7 +7,7 @@ ghost use Rattle.rules.specs.Answers.{addAnswer, assumeAnswer, enableAnswer, mer
 ghost use Rattle.rules.specs.Codes.{net_code, trit_code};
 
 #[repr(C)]
-#[derive(Drop)]
+#[derive(Clone, Copy)]
 pub struct Matrix {
     pub value: [u16; rules::COLUMNS_MAX],
     pub columns: usize,
@@ -17,7 +17,7 @@ pub struct Matrix {
 
 // 01's number, 0 where accepted, and the matrix: the one made, or the one handed in.
 #[repr(C)]
-#[derive(Drop)]
+#[derive(Clone, Copy)]
 pub struct Made {
     pub no: u8,
     pub matrix: Matrix,
@@ -25,7 +25,7 @@ pub struct Made {
 
 // 01's number, 0 where accepted, and the nets that some row names.
 #[repr(C)]
-#[derive(Drop)]
+#[derive(Clone, Copy)]
 pub struct Outputs {
     pub no: u8,
     pub nets: [u16; rules::ROWS_MAX * rules::RULES_MAX],
@@ -33,7 +33,7 @@ pub struct Outputs {
 }
 
 // Which numbers apply to a matrix by itself.
-#[derive(Drop)]
+#[derive(Clone, Copy)]
 pub struct Faults {
     pub form: bool,
     pub columns: bool,

@@ -18,7 +18,7 @@ use rules::Cell;
 use tree::inner::Root;
 
 // What a tree has sent: the nets of its value, and the entries then in use.
-#[derive(Drop)]
+#[derive(Clone, Copy)]
 pub struct Sent {
     pub nets: [u16; rules::WIDTH_MAX],
     pub used: usize,
@@ -109,7 +109,7 @@ fn bit_of(b: bool) -> u16
 }
 
 // Where the bits of an update stand, if there is one.
-#[derive(Drop)]
+#[derive(Clone, Copy)]
 struct Span {
     found: bool,
     at: usize,

@@ -2,7 +2,7 @@
 use crate::{ask, emission, held, parse, tally, updates};
 
 // The text of a case's matrix, its enable and how many outputs, and where the case goes on.
-#[derive(Drop)]
+#[derive(Clone, Copy)]
 struct Begun {
     start: usize,
     end: usize,
@@ -12,7 +12,7 @@ struct Begun {
 }
 
 // Where a case goes on, and the size of its tree, 0 where there is none.
-#[derive(Drop)]
+#[derive(Clone, Copy)]
 struct Grown {
     at: usize,
     size: usize,

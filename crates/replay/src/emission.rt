@@ -3,7 +3,7 @@ use crate::{held, parse};
 use evaluate::inner::MUX_RUN;
 
 // Where the emission ends, and whether ours is the same.
-#[derive(Drop)]
+#[derive(Clone, Copy)]
 pub(crate) struct Seen {
     pub at: usize,
     pub right: bool,

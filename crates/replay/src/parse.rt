@@ -13,20 +13,20 @@ const CELL_LAST: usize = rules::CELL_MAX as usize + rules::MUX_MAX;
 
 const FIRST_CELL: u16 = 3;
 
-#[derive(Drop)]
+#[derive(Clone, Copy)]
 pub(crate) struct Num {
     pub value: usize,
     pub at: usize,
 }
 
-#[derive(Drop)]
+#[derive(Clone, Copy)]
 pub(crate) struct Code {
     pub code: u16,
     pub at: usize,
 }
 
 // The bytes of a text, and the position after its last LF.
-#[derive(Drop)]
+#[derive(Clone, Copy)]
 pub(crate) struct Span {
     pub start: usize,
     pub end: usize,

@@ -6,14 +6,14 @@ const UPDATES_MAX: usize = 16;
 
 const BITS_MAX: usize = UPDATES_MAX * rules::WIDTH_MAX;
 
-#[derive(Drop)]
+#[derive(Clone, Copy)]
 pub(crate) struct Asked {
     pub at: usize,
     pub made: emit::Emitted,
 }
 
 // Where the next update stands, and where its bits go.
-#[derive(Drop)]
+#[derive(Clone, Copy)]
 struct Read {
     at: usize,
     bits: usize,

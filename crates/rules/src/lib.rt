@@ -2,7 +2,7 @@
 // Here are only the types of trits, nets and places, the bounds and the numbers; no operation on them.
 mod bounds;
 
-#[derive(Drop)]
+#[derive(Clone, Copy)]
 pub enum Trit {
     Zero,
     One,
@@ -10,16 +10,16 @@ pub enum Trit {
 }
 
 // The number of a cell net, a column of a matrix, and an entry of the node store: three kinds that never mix.
-#[derive(Drop)]
+#[derive(Clone, Copy)]
 pub struct Cell(pub u16);
 
-#[derive(Drop)]
+#[derive(Clone, Copy)]
 pub struct Column(pub usize);
 
-#[derive(Drop)]
+#[derive(Clone, Copy)]
 pub struct Place(pub usize);
 
-#[derive(Drop)]
+#[derive(Clone, Copy)]
 pub enum Net {
     Const(Trit),
     Cell(Cell),

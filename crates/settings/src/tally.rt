@@ -1,5 +1,5 @@
 // How many calls were accepted, and how many were refused by which number.
-#[derive(Drop)]
+#[derive(Clone, Copy)]
 pub struct Tally {
     accepted: u64,
     net: u64,

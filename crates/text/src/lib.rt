@@ -8,7 +8,7 @@ ghost use Rattle.text.specs.Calls.{printed_read, read_from};
 pub mod inner;
 
 // How many bytes were written, or 01's number.
-#[derive(Drop)]
+#[derive(Clone, Copy)]
 pub enum Printed {
     Done(usize),
     Refused(u8),
@@ -16,7 +16,7 @@ pub enum Printed {
 
 // 0 and 0 where a matrix was read; else 01's number and the line, and the matrix without columns and rows.
 #[repr(C)]
-#[derive(Drop)]
+#[derive(Clone, Copy)]
 pub struct ReadMade {
     pub no: u8,
     pub line: usize,

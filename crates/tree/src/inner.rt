@@ -148,7 +148,7 @@ fn wide(x: u16) -> usize
 }
 
 // The root of the tree in whose entries a slice ends: how many rules a leaf has, or a branch's test and where its arms end.
-#[derive(Drop)]
+#[derive(Clone, Copy)]
 pub enum Root {
     Leaf(usize),
     Branch { test: Cell, one: usize, zero: usize },
@@ -246,7 +246,7 @@ fn tests(head: u16, test: u16, n: u16) -> bool
 }
 
 // What the last entry says: no tree ends so; it is a tree by itself; or it joins two, which stand up to `zero` and from there up to `one`.
-#[derive(Drop)]
+#[derive(Clone, Copy)]
 enum Last {
     Bad,
     Alone,

@@ -9,14 +9,14 @@ use rules::Place;
 pub mod inner;
 
 // A sub-dispatch's answer: where its tree's root stands and how many entries the tree has, or number 7.
-#[derive(Drop)]
+#[derive(Clone, Copy)]
 pub enum Built {
     Done { root: Place, size: usize },
     Refused(u8),
 }
 
 // The size of a tree handed in, or number 12.
-#[derive(Drop)]
+#[derive(Clone, Copy)]
 pub enum Checked {
     Tree(usize),
     Refused(u8),

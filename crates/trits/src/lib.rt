@@ -8,19 +8,19 @@ ghost use Rattle.trits.specs.Mux.{table};
 
 pub mod inner;
 
-#[derive(Drop)]
+#[derive(Clone, Copy)]
 pub enum TritRead {
     Is(rules::Trit),
     Refused(u8),
 }
 
-#[derive(Drop)]
+#[derive(Clone, Copy)]
 pub enum NetRead {
     Is(rules::Net),
     Refused(u8),
 }
 
-#[derive(Drop)]
+#[derive(Clone, Copy)]
 pub enum NetCode {
     Is(u16),
     Refused(u8),

@@ -14,14 +14,14 @@ use crate::inner::scan;
 use print::inner::lines;
 
 // Whether it is a value line, and its nets.
-#[derive(Drop)]
+#[derive(Clone, Copy)]
 pub struct Head {
     pub fine: bool,
     pub nets: rows::Nets,
 }
 
 // Whether it is a row's line, and the row.
-#[derive(Drop)]
+#[derive(Clone, Copy)]
 pub struct Taken {
     pub fine: bool,
     pub row: rows::Row,

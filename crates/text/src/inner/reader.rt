@@ -9,7 +9,7 @@ ghost use Rattle.text.specs.Steps.{Cut, HeadFits, Stepped};
 use crate::inner::parse;
 
 // A row's line and the place after it.
-#[derive(Drop)]
+#[derive(Clone, Copy)]
 pub struct Step {
     pub fine: bool,
     pub row: rows::Row,

@@ -4,7 +4,7 @@ ghost use Rattle.rules.specs.Bounds.{columns_max};
 ghost use Rattle.text.specs.Scan.{cell_at, figure_of, rules_at, scanned, word_at};
 
 // A net's code, and how long it is with the space before it; length 0 is none.
-#[derive(Drop)]
+#[derive(Clone, Copy)]
 pub struct Word {
     pub code: u16,
     pub len: usize,

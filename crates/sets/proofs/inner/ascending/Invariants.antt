@@ -1,0 +1,16 @@
+use Prim.Native.Nat.{◌-◌, ◌≤◌}
+use borrow.Author.Rules.{rules}
+use lib.ListN.{drop, length}
+use mathlib.Core.Path.{◌≡◌, sym, ◌∙◌}
+use native.Mathlib.Omega.{arith}
+use Rattle.rules.specs.Bounds.{rules_max}
+use Rattle.rules.specs.Given.{above, ascends, cells}
+use Rattle.sets.proofs.Laws.{above-done, above_more, above_skip, above_start, above_stop}
+use Rattle.sets.specs.Sets.{list_of}
+use Rattle.sets.proofs.inner.ascending.Given as goal
+
+abbrev pub invariant-loop-i : goal.invariant-loop-i
+invariant-loop-i l = (l.i ≤ l.n) × (l.n ≤ rules_max) × (l.n ≡ length (list_of l.s)) × (above l.low (cells (drop l.i (list_of l.s))) ≡ ascends (cells (list_of l.s)))
+
+abbrev pub decreases-loop-i : goal.decreases-loop-i
+decreases-loop-i l = l.n - l.i

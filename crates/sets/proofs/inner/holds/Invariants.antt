@@ -1,0 +1,17 @@
+use Prim.Native.Nat.{◌-◌, ◌≤◌}
+use borrow.Author.Rules.{rules}
+use borrow.Author.Tests.{eq-eqb, ne_eqb}
+use lib.ListN.{drop, length}
+use mathlib.Core.Path.{◌≡◌, refl, sym, ◌∙◌}
+use native.Mathlib.Omega.{arith}
+use Rattle.lists.specs.Lists.{mem}
+use Rattle.rules.specs.Bounds.{rules_max}
+use Rattle.sets.proofs.Laws.{mem-done, mem_more, mem_stop}
+use Rattle.sets.specs.Sets.{list_of}
+use Rattle.sets.proofs.inner.holds.Given as goal
+
+abbrev pub invariant-loop-i : goal.invariant-loop-i
+invariant-loop-i l = (l.i ≤ l.n) × (l.n ≤ rules_max) × (l.n ≡ length (list_of l.s)) × (mem l.x (drop l.i (list_of l.s)) ≡ mem l.x (list_of l.s))
+
+abbrev pub decreases-loop-i : goal.decreases-loop-i
+decreases-loop-i l = l.n - l.i

@@ -1,0 +1,20 @@
+use Prim.Native.Nat.{◌-◌, ◌≤◌}
+use borrow.Author.Rules.{rules}
+use borrow.Author.Tests.{not-false, not-true}
+use lib.ListN.{drop, length}
+use mathlib.Core.Path.{◌≡◌, refl, sym, ◌∙◌}
+use native.Mathlib.Omega.{arith}
+use Rattle.lists.specs.Lists.{all, rest-done}
+use Rattle.rules.specs.Bounds.{rules_max}
+use Rattle.rules.specs.Nets.{is_name}
+use Rattle.sets.proofs.Laws.{slots_more, slots_stop}
+use Rattle.sets.specs.Sets.{list_of}
+use Rattle.std.proofs.Common.{ap, not}
+use Rattle.std.proofs.Common.{ap, not}
+use Rattle.sets.proofs.inner.named.Given as goal
+
+abbrev pub invariant-loop-i : goal.invariant-loop-i
+invariant-loop-i l = (l.i ≤ l.n) × (l.n ≤ rules_max) × (l.n ≡ length (list_of l.s)) × (all is_name (drop l.i (list_of l.s)) ≡ all is_name (list_of l.s))
+
+abbrev pub decreases-loop-i : goal.decreases-loop-i
+decreases-loop-i l = l.n - l.i

@@ -1,0 +1,12 @@
+use borrow.Author.Tests.{le-ltb}
+use native.Mathlib.Omega.{arith}
+use Rattle.trits.proofs.inner.trit.Goals as goal
+
+pub returns-in-0 : goal.returns-in-0
+returns-in-0 c = rw c.in-0.is
+
+pub returns-in-1 : goal.returns-in-1
+returns-in-1 c = rw c.in-1.is
+
+pub returns-in_default : goal.returns-in_default
+returns-in_default c = rw (le-ltb c.args.x 2 (omega (arith, c.in_default.in_default-own.rest.0.1, c.in_default.in_default-own.rest.1)))
