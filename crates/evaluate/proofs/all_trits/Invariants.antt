@@ -1,0 +1,18 @@
+use Prim.Native.Nat.{◌≤◌, ◌-◌, min}
+use borrow.Author.Rules.{rules}
+use borrow.Author.Tests.{le-ltb, lt-ltb}
+use lib.ListN.{get_or, length, take}
+use lib.Seq.{slice}
+use mathlib.Core.Path.{◌≡◌, sym, ◌∙◌, ap}
+use native.Mathlib.Omega.{arith}
+use Rattle.evaluate.proofs.Turns.{take_min}
+use Rattle.lists.specs.Lists.{all, all_done, all_more, all_stop}
+use Rattle.rules.specs.Bounds.{mux_first}
+use Rattle.rules.specs.Trits.{is_trit}
+use Rattle.evaluate.proofs.all_trits.Given as goal
+
+abbrev pub invariant-loop-i : goal.invariant-loop-i
+invariant-loop-i l = (l.i ≤ l.n) × (l.n ≡ min mux_first (length l.trits)) × (all is_trit (slice l.i l.n l.trits) ≡ all is_trit (take mux_first l.trits))
+
+abbrev pub decreases-loop-i : goal.decreases-loop-i
+decreases-loop-i l = l.n - l.i

@@ -1,0 +1,14 @@
+use borrow.Author.Rules.{rules}
+use lib.ListN.{length, take}
+use mathlib.Core.Path.{◌≡◌}
+use native.Mathlib.Omega.{arith}
+use Prim.Native.Nat.{◌-◌, ◌≤◌}
+use Rattle.lists.specs.Vec.{fill, vec, vec_none}
+use Rattle.rules.specs.Bounds.{columns_max}
+use Rattle.rows.proofs.inner.tidy_nets.Given as goal
+
+abbrev pub invariant-loop-i : goal.invariant-loop-i
+invariant-loop-i l = (l.i ≤ l.n) × (l.made ≡ vec columns_max 0 (take l.i l.value))
+
+abbrev pub decreases-loop-i : goal.decreases-loop-i
+decreases-loop-i l = l.n - l.i

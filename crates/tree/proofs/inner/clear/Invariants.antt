@@ -1,0 +1,15 @@
+use Prim.Native.Nat.{◌≤◌, ◌-◌, zero-le}
+use mathlib.Core.List.{◌++◌}
+use mathlib.Core.Path.{◌≡◌, refl}
+use native.Mathlib.Omega.{arith}
+use borrow.Author.Fill.{fill_more, fill_none}
+use borrow.Author.Rules.{rules}
+use lib.ListN.{drop, length, length-set, replicate}
+use Rattle.tree.proofs.Laws.{filled}
+use Rattle.tree.proofs.inner.clear.Given as goal
+
+abbrev pub invariant-loop-i : goal.invariant-loop-i
+invariant-loop-i l = (l.i ≤ length l.initial.store) × (l.store ≡ replicate l.i 0 ++ drop l.i l.initial.store) × (length l.store ≡ length l.initial.store)
+
+abbrev pub decreases-loop-i : goal.decreases-loop-i
+decreases-loop-i l = length l.initial.store - l.i

@@ -1,0 +1,13 @@
+use native.Mathlib.Omega.{arith}
+use borrow.Author.Rules.{rules}
+use lib.ListN.{length-take, take}
+use Rattle.tree.proofs.Grows.{leaf_built, leaf_short}
+use Rattle.tree.proofs.inner.leaf.Goals as goal
+
+pub returns-then-store-lt-NODE_RUN : goal.returns-then-store-lt-NODE_RUN
+returns-then-store-lt-NODE_RUN c = leaf_short (take c.args.count c.args.items) c.args.store.now _ c.if-store-lt-NODE_RUN.true
+
+pub returns : goal.returns
+returns c =
+    leaf_built (take c.args.count c.args.items) c.args.store.now c.put_leaf.new.store _
+    (omega (arith, c.requires, length-take c.args.count c.args.items)) c.if-store-lt-NODE_RUN.false c.put_leaf.ensures

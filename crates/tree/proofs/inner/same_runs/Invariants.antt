@@ -1,0 +1,15 @@
+use Prim.Native.Nat.{ℕ, ◌≤◌, ◌<◌, ◌-◌, ◌+◌}
+use mathlib.Core.Bool.{true≢false}
+use mathlib.Core.Path.{◌≡◌, sym}
+use native.Mathlib.Omega.{arith}
+use borrow.Author.Count.{below_more}
+use borrow.Author.Rules.{rules}
+use lib.ListN.{get_or}
+use Rattle.tree.proofs.Laws.{runs-all, runs-at, runs_long}
+use Rattle.tree.proofs.inner.same_runs.Given as goal
+
+abbrev pub invariant-loop-i : goal.invariant-loop-i
+invariant-loop-i l = (l.i ≤ l.k0) × ((k : ℕ) → k < l.i → get_or l.store k 0 ≡ get_or l.store (l.k0 + k) 0)
+
+abbrev pub decreases-loop-i : goal.decreases-loop-i
+decreases-loop-i l = l.k0 - l.i
