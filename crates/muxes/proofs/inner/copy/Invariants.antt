@@ -1,0 +1,15 @@
+use Prim.Native.Nat.{◌≤◌, ◌-◌}
+use borrow.Author.Rules.{rules}
+use lib.ListN.{length, take}
+use mathlib.Core.Path.{◌≡◌}
+use native.Mathlib.Omega.{arith}
+use Rattle.lists.specs.Vec.{vec, vec_none}
+use Rattle.muxes.proofs.Spans.{copy_end, copy_turn}
+use Rattle.rules.specs.Bounds.{width_max}
+use Rattle.muxes.proofs.inner.copy.Given as goal
+
+abbrev pub invariant-loop-i : goal.invariant-loop-i
+invariant-loop-i l = (l.i ≤ length l.bits) × (l.nets ≡ vec width_max 0 (take l.i l.bits))
+
+abbrev pub decreases-loop-i : goal.decreases-loop-i
+decreases-loop-i l = length l.bits - l.i

@@ -1,0 +1,13 @@
+use Prim.Native.Nat.{◌-◌}
+use borrow.Author.Rules.{rules}
+use lib.ListN.{drop, length}
+use mathlib.Core.Path.{◌≡◌, refl, sym, ◌∙◌}
+use Rattle.lists.specs.Lists.{mem}
+use Rattle.muxes.proofs.Leaves.{held, held_next, held_none}
+use Rattle.muxes.proofs.inner.holds.Given as goal
+
+abbrev pub invariant-loop-i : goal.invariant-loop-i
+invariant-loop-i l = mem l.net (drop l.i l.nets) ≡ mem l.net l.nets
+
+abbrev pub decreases-loop-i : goal.decreases-loop-i
+decreases-loop-i l = length l.nets - l.i

@@ -1,0 +1,18 @@
+use Prim.Native.Nat.{◌≤◌, ◌-◌, ◌+◌, ℕ}
+use borrow.Author.Rules.{rules}
+use lib.ListN.{length, take}
+use mathlib.Core.Path.{◌≡◌, refl, ap, ◌∙◌}
+use native.Mathlib.Omega.{arith}
+use Rattle.lists.specs.Vec.{vec}
+use Rattle.muxes.proofs.Puts.{nets_start, joins_nets, joins_put, joins_start}
+use Rattle.rules.specs.Bounds.{width_max}
+use Rattle.rules.specs.Closed.{branch, drives}
+use Rattle.rules.specs.Emit.{appended}
+use Rattle.rules.specs.Nets.{cell}
+use Rattle.muxes.proofs.inner.join.Given as goal
+
+abbrev pub invariant-loop-i : goal.invariant-loop-i
+invariant-loop-i l = (l.i ≤ l.width) × (length l.table ≡ length l.initial.table) × (l.table ≡ appended l.k (branch l.select (take l.i l.one) (take l.i l.zero)) l.initial.table) × (l.nets ≡ vec width_max 0 (drives l.k l.i))
+
+abbrev pub decreases-loop-i : goal.decreases-loop-i
+decreases-loop-i l = l.width - l.i

@@ -1,0 +1,15 @@
+use Prim.Native.Nat.{◌-◌}
+use borrow.Author.Rules.{rules}
+use lib.ListN.{drop, length}
+use mathlib.Core.List.{map}
+use mathlib.Core.Path.{◌≡◌, refl, sym, ◌∙◌}
+use Rattle.lists.specs.Lists.{mem}
+use Rattle.muxes.proofs.Hots.{mem-found, mem_next, mem_none}
+use Rattle.rules.specs.Nets.{cell}
+use Rattle.muxes.proofs.inner.names.Given as goal
+
+abbrev pub invariant-loop-i : goal.invariant-loop-i
+invariant-loop-i l = mem l.net (map cell (drop l.i l.rules)) ≡ mem l.net (map cell l.rules)
+
+abbrev pub decreases-loop-i : goal.decreases-loop-i
+decreases-loop-i l = length l.rules - l.i
