@@ -31,6 +31,11 @@ def files(top):
             yield os.path.join(folder, n)
 
 
+def of_a_function(path):
+    """Whether a file is the proof of a function: what it declares is goals of the toolchain's naming."""
+    return os.path.basename(path) in ("Proof.antt", "Answers.antt", "Invariants.antt") and "/" in path.split("/proofs/")[-1] and "/proofs/" in path
+
+
 def read(path):
     with open(path, encoding="utf-8") as f:
         return f.read()
@@ -169,7 +174,7 @@ def turn_edit(text, table, path):
 def main(argv):
     names, words, said = set(), set(LIBRARY), set()
     for p in files("crates"):
-        if p.endswith(".antt") and os.path.basename(p) not in ("Proof.antt", "Answers.antt", "Invariants.antt"):
+        if p.endswith(".antt") and not of_a_function(p):
             n, w = defined(read(p))
             names |= n
             said |= w
@@ -195,7 +200,7 @@ def main(argv):
         for a, b in sorted(table.items()):
             print(f"{a}\t{b}")
         for p in files("crates"):
-            if p.endswith(".antt") and os.path.basename(p) != "Proof.antt":
+            if p.endswith(".antt") and not of_a_function(p):
                 text = read(p)
                 own, other = imports(text)
                 code = "\n".join(l for l in text.split("\n") if not l.lstrip().startswith("--"))

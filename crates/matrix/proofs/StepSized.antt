@@ -3,13 +3,13 @@ use lib.Dec.{eqb}
 use lib.ListN.{length, length-append, length-map, length-replicate, replicate}
 use mathlib.Core.Bool.{false}
 use mathlib.Core.List.{[], ◌++◌, ◌∷◌, List, map}
-use mathlib.Core.Path.{◌∙◌, ◌≡◌, ap}
+use mathlib.Core.Path.{◌∙◌, ◌≡◌, ap, subst, sym}
 use native.Mathlib.Omega.{arith}
 use Prim.Native.Nat.{◌+◌, ◌<◌, ℕ}
 use Rattle.lists.specs.Bools.{by_bool}
 use Rattle.rules.specs.Bounds.{columns_max, rows_max}
 use Rattle.rules.specs.Given.{Sized, SizedRows}
-use Rattle.rules.specs.Matrix.{add_enable, assume, Matrix, Row, swap, widened}
+use Rattle.rules.specs.Matrix.{add_enable, assume, Matrix, off, Row, swap, widened}
 
 pub sized_assume : (t b : ℕ) (m : Matrix) → Sized m → Sized (assume t b m)
 sized_assume t b m s =
@@ -34,4 +34,6 @@ sized_enable e m s h =
     let n : length (m.nets ++ (e ∷ [])) ≡ length m.nets + 1 = length-append m.nets (e ∷ []) in
     let k : length (map widened m.rows) ≡ length m.rows = length-map m.rows widened in
     let w = length-off (length m.nets) in
-    rw p record { wide = omega (arith, b.0); tall = omega (arith, b.1); each = rw n (w, omega arith, sized_widened (length m.nets) m.rows s.each) })
+    let rest : SizedRows (length (m.nets ++ (e ∷ []))) (map widened m.rows) = subst (λ (i : ℕ). SizedRows i (map widened m.rows)) (sym n) (sized_widened (length m.nets) m.rows s.each) in
+    let each : SizedRows (length (m.nets ++ (e ∷ []))) (off m ∷ map widened m.rows) = (w ∙ sym n, omega arith, rest) in
+    rw p record { wide = omega (arith, b.0); tall = omega (arith, b.1); each = each })

@@ -48,7 +48,7 @@ pub fn fresh(nets: &[u16]) -> crate::Matrix
 
 pub fn row(pattern: &[u8], rules: sets::Rules) -> rows::Row
     requires { (length pattern.now ≤ columns_max) × (rules ≡ rules_from (list_of rules)) }
-    ensures { result ≡ row_from (record { pattern = pattern.entry.now; rules = list_of rules }) }
+    ensures { result ≡ row_from (record { pattern = pattern.now; rules = list_of rules }) }
 {
     rows::Row {
         pattern: pattern_of(pattern),

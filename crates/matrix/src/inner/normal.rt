@@ -92,7 +92,7 @@ fn gone(
 
 fn strip_rows(mut m: crate::Matrix, gone: [bool; rules::COLUMNS_MAX]) -> crate::Matrix
     requires { Clean m }
-    ensures* { λ r. ⌜ r ≡ matrix_from (record { nets = kept (take m.columns gone) (view m).nets; rows = map (λ (r : Row). record { pattern = kept (take m.columns gone) r.pattern; rules = r.rules }) (view m).rows }) ⌝ }
+    ensures { result ≡ matrix_from (record { nets = kept (take m.columns gone) (view m).nets; rows = map (λ (r : Row). record { pattern = kept (take m.columns gone) r.pattern; rules = r.rules }) (view m).rows }) }
 {
     let n = m.columns;
     let value = m.value;

@@ -1,0 +1,6 @@
+use borrow.Author.Rules.{rules}
+use Rattle.matrix.proofs.Calls.{push_made}
+use Rattle.matrix.proofs.inner.build.push.Goals as goal
+
+pub returns : goal.returns
+returns c = push_made c.args.m c.requires.0 c.args.row _ c.requires.1 c.requires.2

@@ -1,0 +1,18 @@
+use borrow.Author.Rules.{rules}
+use lib.ListN.{drop, length, take}
+use lib.Seq.{length-take-le}
+use mathlib.Core.Bool.{not}
+use mathlib.Core.Path.{◌∙◌, ◌≡◌, ap, refl, sym}
+use native.Mathlib.Omega.{arith}
+use Prim.Native.Nat.{◌-◌, ◌≤◌, ℕ}
+use Rattle.lists.specs.Lists.{rest-done}
+use Rattle.matrix.proofs.Checks.{used_more, used_stop}
+use Rattle.rules.specs.Nets.{over}
+use Rattle.rules.specs.Refusals.{all_low}
+use Rattle.matrix.proofs.inner.check.low.Given as goal
+
+abbrev pub invariant-loop-i : goal.invariant-loop-i
+invariant-loop-i l = (l.i ≤ l.n) × (l.n ≤ length l.items) × (all_low (drop l.i (take l.n l.items)) ≡ all_low (take l.n l.items))
+
+abbrev pub decreases-loop-i : goal.decreases-loop-i
+decreases-loop-i l = l.n - l.i

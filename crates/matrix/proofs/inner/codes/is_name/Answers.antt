@@ -1,0 +1,5 @@
+use borrow.Author.Rules.{rules}
+use Rattle.matrix.proofs.inner.codes.is_name.Goals as goal
+
+pub returns : goal.returns
+returns c = rw c.over.ensures

@@ -1,0 +1,24 @@
+use borrow.Author.Rules.{rules}
+use lib.ListN.{take}
+use mathlib.Core.List.{◌++◌, append-nil, map}
+use mathlib.Core.Path.{◌∙◌, ◌≡◌, ap, refl, sym}
+use native.Mathlib.Omega.{arith}
+use Prim.Native.Nat.{◌+◌, ◌-◌, ◌≤◌, ℕ}
+use Rattle.lists.specs.Vec.{vec}
+use Rattle.matrix.proofs.MergeRows.{part-fits, part_turn, parts_are}
+use Rattle.matrix.proofs.StepHeld.{clean_held, row_tidy, zero_row}
+use Rattle.matrix.specs.Mat.{view}
+use Rattle.rows.specs.Rows as rows
+use Rattle.rows.specs.Rows.{row_from}
+use Rattle.rules.specs.Bounds.{rows_max}
+use Rattle.rules.specs.Matrix.{joined}
+use Rattle.matrix.proofs.inner.merge.add_joined.Given as goal
+
+abbrev pub invariant-loop-i : goal.invariant-loop-i
+invariant-loop-i l =
+    (l.i ≤ l.child.count) × (l.k + l.child.count ≤ rows_max)
+    × (l.made.rows ≡ vec rows_max zero_row (map row_from (view l.initial.made).rows ++ take l.i (map row_from (map (joined (rows.view l.row)) (view l.child).rows))))
+    × (l.made.value ≡ l.initial.made.value) × (l.made.columns ≡ l.initial.made.columns)
+
+abbrev pub decreases-loop-i : goal.decreases-loop-i
+decreases-loop-i l = l.child.count - l.i

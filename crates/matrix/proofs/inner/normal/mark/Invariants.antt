@@ -1,0 +1,19 @@
+use borrow.Author.Rules.{rules}
+use lib.ListN.{get_or, length, take}
+use lib.Seq.{get_or-take, length-take-le}
+use mathlib.Core.Bool.{◌||◌, false, not}
+use mathlib.Core.Path.{◌∙◌, ◌≡◌, ap, refl, sym}
+use native.Mathlib.Omega.{arith}
+use Prim.Native.Nat.{◌-◌, ◌≤◌, ℕ}
+use Rattle.lists.specs.Vec.{vec}
+use Rattle.matrix.proofs.NormalFlags.{flags_end, flags_turn}
+use Rattle.rows.specs.Rows.{flags}
+use Rattle.rules.specs.Bounds.{columns_max}
+use Rattle.rules.specs.Trits.{is_x}
+use Rattle.matrix.proofs.inner.normal.mark.Given as goal
+
+abbrev pub invariant-loop-i : goal.invariant-loop-i
+invariant-loop-i l = (l.i ≤ l.n) × (l.made ≡ vec columns_max false (take l.i (flags (λ (j mask : ℕ). get_or l.used j false || not (is_x mask)) (take l.n l.pattern))))
+
+abbrev pub decreases-loop-i : goal.decreases-loop-i
+decreases-loop-i l = l.n - l.i

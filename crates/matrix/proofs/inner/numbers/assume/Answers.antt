@@ -1,0 +1,5 @@
+use borrow.Author.Rules.{rules}
+use Rattle.matrix.proofs.inner.numbers.assume.Goals as goal
+
+pub returns : goal.returns
+returns c = rw (c.faults-f.ensures, c.over-over.ensures) at c.number.ensures
