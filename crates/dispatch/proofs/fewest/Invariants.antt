@@ -1,0 +1,14 @@
+use borrow.Author.Rules.{rules}
+use mathlib.Core.Path.{◌∙◌, ◌≡◌, ap, sym}
+use native.Mathlib.Omega.{arith}
+use Prim.Native.Nat.{◌-◌, ◌<◌, ◌≤◌, ℕ}
+use Rattle.dispatch.proofs.Choices.{least_end, least-keep, least_more}
+use Rattle.dispatch.specs.Choice.{least}
+use Rattle.rules.specs.Bounds.{columns_max}
+use Rattle.dispatch.proofs.fewest.Given as goal
+
+abbrev pub invariant-loop-i : goal.invariant-loop-i
+invariant-loop-i l = (l.i ≤ l.n) × (l.at < columns_max) × (least l.counts (l.n - l.i) l.i l.at ≡ least l.counts l.n 0 0)
+
+abbrev pub decreases-loop-i : goal.decreases-loop-i
+decreases-loop-i l = l.n - l.i
