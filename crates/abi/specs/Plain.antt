@@ -2,7 +2,7 @@
 use Rattle.std.specs.Prelude.{ℕ, cond}
 use Rattle.abi.specs.declared.Answered.{Answered}
 use Rattle.abi.specs.declared.Dispatched.{Dispatched}
-use Rattle.rules.specs.Answers.{Made, assumeAnswer}
+use Rattle.rules.specs.Answers.{Made, assume_answer}
 use Rattle.rules.specs.Given.{Given}
 use Rattle.rules.specs.Refuse.{FORM, Outcome, done, refused}
 use Rattle.rules.specs.Trits.{is_trit}
@@ -23,4 +23,4 @@ answered (refused n) = record { no = n; value = 0 }
 
 -- a value that codes no trit is refused, and the matrix handed back
 abbrev pub assumed : ℕ → ℕ → Given → Made
-assumed t b g = cond (is_trit b) (assumeAnswer t b g) (record { number = FORM; matrix = g })
+assumed t b g = cond (is_trit b) (assume_answer t b g) (record { number = FORM; matrix = g })

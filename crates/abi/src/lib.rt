@@ -7,7 +7,7 @@ ghost use Rattle.emit.specs.Calls.{emitted_from, prefix_read};
 ghost use Rattle.evaluate.specs.Values.{value_read};
 ghost use Rattle.matrix.specs.Mat.{given, made_from};
 ghost use Rattle.matrix.specs.Outs.{outputs_from};
-ghost use Rattle.rules.specs.Answers.{addAnswer, checkAnswer, disjointAfter, disjointAnswer, dispatchAnswer, dispatchStore, enableAnswer, evaluateAnswer, mergeAnswer, newAnswer, normalizeAnswer, oneHotAfter, oneHotAnswer, outputsAnswer, prefixAnswer, printAfter, printAnswer, printTreeAfter, printTreeAnswer, readAnswer};
+ghost use Rattle.rules.specs.Answers.{add_answer, check_answer, disjoint_after, disjoint_answer, dispatch_answer, dispatch_store, enable_answer, evaluate_answer, merge_answer, new_answer, normalize_answer, one_hot_after, one_hot_answer, outputs_answer, prefix_answer, print_after, print_answer, print_tree_after, print_tree_answer, read_answer};
 ghost use Rattle.rules.specs.Codes.{net_code};
 ghost use Rattle.text.specs.Calls.{printed_read, read_from};
 ghost use Rattle.tree.specs.Checked.{check_read};
@@ -110,7 +110,7 @@ fn valued(told: evaluate::Value) -> Answered
 
 #[unsafe(no_mangle)]
 pub extern "C" fn doorpigeon_new(nets: &[u16]) -> matrix::Made
-    ensures { result ≡ made_from (newAnswer nets.now) }
+    ensures { result ≡ made_from (new_answer nets.now) }
 {
     matrix::Matrix::new(nets)
 }
@@ -121,7 +121,7 @@ pub extern "C" fn doorpigeon_add(
     pattern: &[u8],
     rules: &[u16],
 ) -> matrix::Made
-    ensures { result ≡ made_from (addAnswer pattern.now rules.now (given matrix)) }
+    ensures { result ≡ made_from (add_answer pattern.now rules.now (given matrix)) }
 {
     matrix.add(pattern, rules)
 }
@@ -142,21 +142,21 @@ pub extern "C" fn doorpigeon_assume(matrix: matrix::Matrix, target: u32, value: 
 
 #[unsafe(no_mangle)]
 pub extern "C" fn doorpigeon_outputs(matrix: matrix::Matrix) -> matrix::Outputs
-    ensures { result ≡ outputs_from (outputsAnswer (given matrix)) }
+    ensures { result ≡ outputs_from (outputs_answer (given matrix)) }
 {
     matrix.outputs()
 }
 
 #[unsafe(no_mangle)]
 pub extern "C" fn doorpigeon_normalize(matrix: matrix::Matrix) -> matrix::Made
-    ensures { result ≡ made_from (normalizeAnswer (given matrix)) }
+    ensures { result ≡ made_from (normalize_answer (given matrix)) }
 {
     matrix.normalize()
 }
 
 #[unsafe(no_mangle)]
 pub extern "C" fn doorpigeon_add_enable(matrix: matrix::Matrix, enable: u32) -> matrix::Made
-    ensures { result ≡ made_from (enableAnswer (min enable last) (given matrix)) }
+    ensures { result ≡ made_from (enable_answer (min enable last) (given matrix)) }
 {
     matrix.add_enable(net(enable))
 }
@@ -167,7 +167,7 @@ pub extern "C" fn doorpigeon_merge(
     at: u32,
     child: matrix::Matrix,
 ) -> matrix::Made
-    ensures { result ≡ made_from (mergeAnswer (min at last) (given matrix) (given child)) }
+    ensures { result ≡ made_from (merge_answer (min at last) (given matrix) (given child)) }
 {
     matrix.merge(net(at), child)
 }
@@ -178,14 +178,14 @@ pub extern "C" fn doorpigeon_dispatch(
     enable: u32,
     store: &mut [u16],
 ) -> Dispatched
-    ensures { (result ≡ dispatched (dispatchAnswer (min enable last) (given matrix) store.old)) × (store.new ≡ dispatchStore (min enable last) (given matrix) store.old) }
+    ensures { (result ≡ dispatched (dispatch_answer (min enable last) (given matrix) store.old)) × (store.new ≡ dispatch_store (min enable last) (given matrix) store.old) }
 {
     told(dispatch::dispatch(matrix, net(enable), store))
 }
 
 #[unsafe(no_mangle)]
 pub extern "C" fn doorpigeon_check(store: &[u16], root: usize) -> Answered
-    ensures { result ≡ answered (checkAnswer store.now root) }
+    ensures { result ≡ answered (check_answer store.now root) }
 {
     checked(tree::check(store, rules::Place(root)))
 }
@@ -198,7 +198,7 @@ pub extern "C" fn doorpigeon_one_hot(
     count: usize,
     table: &mut [u16],
 ) -> emit::Emitted
-    ensures { (result ≡ emitted_from (oneHotAnswer store.now root outputs.now count table.old)) × (table.new ≡ oneHotAfter store.now root outputs.now count table.old) }
+    ensures { (result ≡ emitted_from (one_hot_answer store.now root outputs.now count table.old)) × (table.new ≡ one_hot_after store.now root outputs.now count table.old) }
 {
     emit::one_hot(store, rules::Place(root), outputs, count, table)
 }
@@ -214,7 +214,7 @@ pub extern "C" fn doorpigeon_disjoint(
     count: usize,
     table: &mut [u16],
 ) -> emit::Emitted
-    ensures { (result ≡ emitted_from (disjointAnswer store.now root nets.now widths.now bits.now default.now count table.old)) × (table.new ≡ disjointAfter store.now root nets.now widths.now bits.now default.now count table.old) }
+    ensures { (result ≡ emitted_from (disjoint_answer store.now root nets.now widths.now bits.now default.now count table.old)) × (table.new ≡ disjoint_after store.now root nets.now widths.now bits.now default.now count table.old) }
 {
     emit::disjoint(
         store,
@@ -235,7 +235,7 @@ pub extern "C" fn doorpigeon_prefix(
     outputs: &[u16],
     enables: &[u16],
 ) -> Answered
-    ensures { result ≡ answered (prefixAnswer store.now root outputs.now enables.now) }
+    ensures { result ≡ answered (prefix_answer store.now root outputs.now enables.now) }
 {
     together(emit::prefix(store, rules::Place(root), outputs, enables))
 }
@@ -247,28 +247,28 @@ pub extern "C" fn doorpigeon_evaluate(
     trits: &[u8],
     asked: u32,
 ) -> Answered
-    ensures { result ≡ answered (evaluateAnswer count table.now trits.now (min asked last)) }
+    ensures { result ≡ answered (evaluate_answer count table.now trits.now (min asked last)) }
 {
     valued(evaluate::evaluate(table, count, trits, net(asked)))
 }
 
 #[unsafe(no_mangle)]
 pub extern "C" fn doorpigeon_print(matrix: matrix::Matrix, out: &mut [u8]) -> Answered
-    ensures { (result ≡ answered (printAnswer (given matrix) out.old)) × (out.new ≡ printAfter (given matrix) out.old) }
+    ensures { (result ≡ answered (print_answer (given matrix) out.old)) × (out.new ≡ print_after (given matrix) out.old) }
 {
     printed(text::print(matrix, out))
 }
 
 #[unsafe(no_mangle)]
 pub extern "C" fn doorpigeon_print_tree(store: &[u16], root: usize, out: &mut [u8]) -> Answered
-    ensures { (result ≡ answered (printTreeAnswer store.now root out.old)) × (out.new ≡ printTreeAfter store.now root out.old) }
+    ensures { (result ≡ answered (print_tree_answer store.now root out.old)) × (out.new ≡ print_tree_after store.now root out.old) }
 {
     printed(text::print_tree(store, rules::Place(root), out))
 }
 
 #[unsafe(no_mangle)]
 pub extern "C" fn doorpigeon_read(text: &[u8]) -> text::ReadMade
-    ensures { result ≡ read_from (readAnswer text.now) }
+    ensures { result ≡ read_from (read_answer text.now) }
 {
     text::read(text)
 }

@@ -16,7 +16,7 @@ use Rattle.matrix.specs.Mat.{given, view}
 use Rattle.matrix.specs.declared.Matrix.{Matrix}
 use Rattle.rules.proofs.Lowers.{unrefused_is}
 use Rattle.rules.proofs.Picks.{none_applies}
-use Rattle.rules.specs.Answers.{added, dispatchAnswer, dispatchStore, evaluateAnswer, oneHotAfter, oneHotAnswer}
+use Rattle.rules.specs.Answers.{added, dispatch_answer, dispatch_store, evaluate_answer, one_hot_after, one_hot_answer}
 use Rattle.rules.specs.Bounds.{mux_first, width_max}
 use Rattle.rules.specs.Codes.{net_code}
 use Rattle.rules.specs.Emit.{emitted, in_use, one_hot}
@@ -38,34 +38,34 @@ sent n a h = by_bool (eqb n 0) (λ p. rw p) (λ p. let q : n ≡ 0 = rw p at h i
 
 -- A matrix and an enable; the numbers of the store before and after; what dispatch ensures of its answer, which is a tree.
 module _ (m : Matrix) (slots : Slots (given m)) (enable : Net) (store after : List ℕ) (built : Built)
-    (dispatched : (built_read built ≡ dispatchAnswer (net_code enable) (given m) store) × (after ≡ dispatchStore (net_code enable) (given m) store))
+    (dispatched : (built_read built ≡ dispatch_answer (net_code enable) (given m) store) × (after ≡ dispatch_store (net_code enable) (given m) store))
     (root : Place) (size : ℕ) (a-tree : built ≡ Done root size)
     (outs : List ℕ) (count : ℕ) (table then : List ℕ) (sends : Emitted)
-    (one-hot : (sends ≡ emitted_from (oneHotAnswer after root.0 outs count table)) × (then ≡ oneHotAfter after root.0 outs count table)) (accepted : sends.no ≡ 0) where
+    (one-hot : (sends ≡ emitted_from (one_hot_answer after root.0 outs count table)) × (then ≡ one_hot_after after root.0 outs count table)) (accepted : sends.no ≡ 0) where
   abbrev e : ℕ
   e = net_code enable
 
   abbrev lent : List ℕ
-  lent = dispatchStore e (given m) store
+  lent = dispatch_store e (given m) store
 
-  answered : dispatchAnswer e (given m) store ≡ done (root.0, size)
+  answered : dispatch_answer e (given m) store ≡ done (root.0, size)
   answered = sym dispatched.0 ∙ ap built_read a-tree
 
   abbrev pair : List ℕ × ℕ
   pair = ((emitted (one_hot outs) (tree_in lent root.0) (in_use count table)).1, count + length (added (one_hot outs) (tree_in lent root.0) count table))
 
-  sends_is : sends ≡ emitted_from (oneHotAnswer lent root.0 outs count table)
-  sends_is = one-hot.0 ∙ ap (λ (l : List ℕ). emitted_from (oneHotAnswer l root.0 outs count table)) dispatched.1
+  sends_is : sends ≡ emitted_from (one_hot_answer lent root.0 outs count table)
+  sends_is = one-hot.0 ∙ ap (λ (l : List ℕ). emitted_from (one_hot_answer l root.0 outs count table)) dispatched.1
 
-  hot : oneHotAnswer lent root.0 outs count table ≡ done pair
-  unfolding oneHotAnswer
+  hot : one_hot_answer lent root.0 outs count table ≡ done pair
+  unfolding one_hot_answer
   hot = sent (refusal (one_hot_table lent root.0 outs count table)) pair (sym (ap (λ (s : Emitted). s.no) sends_is) ∙ accepted)
 
   sends_done : sends ≡ emitted_from (done pair)
   sends_done = sends_is ∙ ap emitted_from hot
 
   few : length outs ≤ width_max
-  unfolding oneHotAnswer mem
+  unfolding one_hot_answer mem
   few =
       let w = unrefused_is (refusal (one_hot_table lent root.0 outs count table)) pair pair hot in
       ltb-false width_max (length outs) (none_applies (one_hot_table lent root.0 outs count table) w.0 WIDTH refl)
@@ -75,21 +75,21 @@ module _ (m : Matrix) (slots : Slots (given m)) (enable : Net) (store after : Li
 
   -- the evaluator on the table after, asked for the i-th net of the value
   asks : (ts : List ℕ) (i : ℕ) → i < length outs → (asked : Net) → net_code asked ≡ get_or sends.nets i 0
-      → evaluateAnswer sends.used then ts (net_code asked) ≡ evaluateAnswer pair.1 (oneHotAfter lent root.0 outs count table) ts (get_or pair.0 i 0)
+      → evaluate_answer sends.used then ts (net_code asked) ≡ evaluate_answer pair.1 (one_hot_after lent root.0 outs count table) ts (get_or pair.0 i 0)
   asks ts i h asked q =
-      ap (λ (s : Emitted). evaluateAnswer s.used then ts (net_code asked)) sends_done
-      ∙ ap₂ (λ (t : List ℕ) (n : ℕ). evaluateAnswer pair.1 t ts n) (one-hot.1 ∙ ap (λ (l : List ℕ). oneHotAfter l root.0 outs count table) dispatched.1) (q ∙ net-at i h)
+      ap (λ (s : Emitted). evaluate_answer s.used then ts (net_code asked)) sends_done
+      ∙ ap₂ (λ (t : List ℕ) (n : ℕ). evaluate_answer pair.1 t ts n) (one-hot.1 ∙ ap (λ (l : List ℕ). one_hot_after l root.0 outs count table) dispatched.1) (q ∙ net-at i h)
 
   -- C1: what evaluate answers is 1 exactly when the first matching row names the output, else 0
   pub code_first_match : (ts : List ℕ) → all is_trit (take mux_first ts) ≡ true → (σ : Setting) → Knows (trits_of ts) σ (add_enable e (view m))
-      → (i : ℕ) → i < length outs → (asked : Net) → net_code asked ≡ get_or sends.nets i 0 → (v : Value) → value_read v ≡ evaluateAnswer sends.used then ts (net_code asked)
+      → (i : ℕ) → i < length outs → (asked : Net) → net_code asked ≡ get_or sends.nets i 0 → (v : Value) → value_read v ≡ evaluate_answer sends.used then ts (net_code asked)
       → value_read v ≡ done (owes σ e (view m) (get_or outs i 0))
   code_first_match ts k σ w i h asked q v ensured =
       ensured ∙ asks ts i h asked q ∙ first_match_lem e (given m) slots store root.0 size answered outs count table pair.0 pair.1 hot ts k σ w i h
 
   -- C3: and a bit that it answers it answers at every filling
   pub code_known_stays : (ts us : List ℕ) → all is_trit (take mux_first ts) ≡ true → Filling ts us → (i b : ℕ) → i < length outs → (asked : Net) → net_code asked ≡ get_or sends.nets i 0
-      → (v u : Value) → value_read v ≡ evaluateAnswer sends.used then ts (net_code asked) → value_read u ≡ evaluateAnswer sends.used then us (net_code asked)
+      → (v u : Value) → value_read v ≡ evaluate_answer sends.used then ts (net_code asked) → value_read u ≡ evaluate_answer sends.used then us (net_code asked)
       → value_read v ≡ done b → (b ≡ 2 → ⊥) → value_read u ≡ done b
   code_known_stays ts us k f i b h asked q v u ev eu is known =
       eu ∙ asks us i h asked q

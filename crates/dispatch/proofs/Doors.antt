@@ -19,7 +19,7 @@ use Rattle.rules.proofs.Accepts.{all-mem, fine-rows, is_not, not_over}
 use Rattle.rules.proofs.Givens.{sized_by_tests}
 use Rattle.rules.proofs.Leafs.{Named, widened-named}
 use Rattle.rules.proofs.Picks.{none_applies}
-use Rattle.rules.specs.Answers.{dispatchAnswer, dispatchStore, enableAnswer}
+use Rattle.rules.specs.Answers.{dispatch_answer, dispatch_store, enable_answer}
 use Rattle.rules.specs.Bounds.{columns_max, rows_max}
 use Rattle.rules.specs.Dispatch.{catch_all, dispatch, peak_of, raw_of}
 use Rattle.rules.specs.Given.{ascends, bad_columns, bad_form, bad_net, bad_rows, bad_rules, bad_shape, formed_row, Given, Sized, Slots, too_tall, too_wide, view as view_of}
@@ -74,8 +74,8 @@ module _ (e : ℕ) (g : Given) (xs : List ℕ) where
   -- ---- the answer where there is a number
 
   pub refused_answer : (n : ℕ) (ys : List ℕ) → n ≡ door (refusal (enable_table e g)) (catch_all (view_of g).rows) → (n ≡ 0 → ⊥) → ys ≡ cleared xs
-      → (Rattle.rules.specs.Refuse.refused n ≡ dispatchAnswer e g xs) × (ys ≡ dispatchStore e g xs)
-  unfolding dispatchAnswer dispatchStore
+      → (Rattle.rules.specs.Refuse.refused n ≡ dispatch_answer e g xs) × (ys ≡ dispatch_store e g xs)
+  unfolding dispatch_answer dispatch_store
   refused_answer n ys q z c =
       let r : refusal (dispatch_table e g xs) ≡ n =
       number_is ∙ door_stays (refusal (enable_table e g)) (catch_all (view_of g).rows) (ltb (used xs) (peak_of e (view_of g))) (λ y. z (q ∙ y)) ∙ sym q in
@@ -84,8 +84,8 @@ module _ (e : ℕ) (g : Given) (xs : List ℕ) where
   -- ---- and where a tree was built
 
   pub built_answer : (n : ℕ) (ys : List ℕ) (r : Built) → n ≡ door (refusal (enable_table e g)) (catch_all (view_of g).rows) → n ≡ 0 → Whole (raw_of (add_enable e (view_of g))) xs ys r
-      → (built_read r ≡ dispatchAnswer e g xs) × (ys ≡ dispatchStore e g xs)
-  unfolding dispatchAnswer dispatchStore dispatch peak_of
+      → (built_read r ≡ dispatch_answer e g xs) × (ys ≡ dispatch_store e g xs)
+  unfolding dispatch_answer dispatch_store dispatch peak_of
   built_answer n ys r q z (made h a c) =
       let o = door_open (refusal (enable_table e g)) (catch_all (view_of g).rows) (sym q ∙ z) in
       let y : refusal (dispatch_table e g xs) ≡ 0 = number_is ∙ rw (o.0, o.1, le-ltb (used xs) (peak_of e (view_of g)) h) in
@@ -153,13 +153,13 @@ module _ (m : Matrix) (e : ℕ) (s : Slots (given m)) (z : refusal (enable_table
   unfolding mem
   enable_low = let none = none_applies (enable_table e (given m)) z in omega (arith, leb-false first_mux e (or_no (bad_net (given m)) (over e) (none NET refl)).1)
 
-  pub enabled_is : (r : Made) → r ≡ made_from (enableAnswer e (given m)) → Good r.matrix × (view r.matrix ≡ add_enable e (view m))
-  unfolding enableAnswer
+  pub enabled_is : (r : Made) → r ≡ made_from (enable_answer e (given m)) → Good r.matrix × (view r.matrix ≡ add_enable e (view m))
+  unfolding enable_answer
   enabled_is r q =
       let y : r.matrix ≡ matrix_from (add_enable e (view m)) = ap (λ (x : Made). x.matrix) q ∙ rw (z) in
       let c = clean_is r.matrix (add_enable e (view m)) sized_both y in
       (record { clean = c.0; plain = subst Plain (sym c.1) (plain_enable e (view m) enable_low plain) }, c.1)
 
-pub enabled_number : (m : Matrix) (e : ℕ) (r : Made) → r ≡ made_from (enableAnswer e (given m)) → r.no ≡ refusal (enable_table e (given m))
-unfolding enableAnswer
+pub enabled_number : (m : Matrix) (e : ℕ) (r : Made) → r ≡ made_from (enable_answer e (given m)) → r.no ≡ refusal (enable_table e (given m))
+unfolding enable_answer
 enabled_number m e r q = ap (λ (x : Made). x.no) q

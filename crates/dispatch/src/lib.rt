@@ -7,7 +7,7 @@ ghost use Rattle.lists.specs.Lists.{map_to};
 ghost use Rattle.lists.specs.Vec.{vec};
 ghost use Rattle.matrix.specs.Mat.{Clean, given, view};
 ghost use Rattle.rules.proofs.Evals.{Cells};
-ghost use Rattle.rules.specs.Answers.{dispatchAnswer, dispatchStore};
+ghost use Rattle.rules.specs.Answers.{dispatch_answer, dispatch_store};
 ghost use Rattle.rules.specs.Bounds.{cell_max, columns_max, node_run, nodes_max, rows_max};
 ghost use Rattle.rules.specs.Codes.{net_code};
 ghost use Rattle.rules.specs.Dispatch.{catch_all, column, done, raw_of, rules, test};
@@ -208,7 +208,7 @@ fn number(no: u8, m: matrix::Matrix) -> u8
 
 // The matrix with its enable as a tree at the front of the store: its root's place and its size, or the number.
 pub fn dispatch(matrix: matrix::Matrix, enable: rules::Net, store: &mut [u16]) -> Built
-    ensures { (built_read result ≡ dispatchAnswer (net_code enable) (given matrix) store.old) × (store.new ≡ dispatchStore (net_code enable) (given matrix) store.old) }
+    ensures { (built_read result ≡ dispatch_answer (net_code enable) (given matrix) store.old) × (store.new ≡ dispatch_store (net_code enable) (given matrix) store.old) }
 {
     let made = matrix.add_enable(enable);
     let no = number(made.no, matrix);

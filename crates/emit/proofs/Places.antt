@@ -18,11 +18,11 @@ use Rattle.muxes.proofs.Splits.{tests-low, tree-fine}
 use Rattle.muxes.specs.Sends.{CanEmit, Sends}
 use Rattle.muxes.specs.declared.inner.Sent.{Sent}
 use Rattle.rules.proofs.Added.{muxes_are, nets-length}
-use Rattle.rules.proofs.Answers.{oneHot-wide}
+use Rattle.rules.proofs.Answers.{one_hot_wide}
 use Rattle.rules.proofs.Entries.{in_use-length}
-use Rattle.rules.proofs.Lowers.{added_is, added_length, needs, nets_are}
+use Rattle.rules.proofs.Lowers.{added_is, added-length, needs, nets_are}
 use Rattle.rules.proofs.Tables.{Fine}
-use Rattle.rules.specs.Answers.{added, emission, emissionTable, oneHotAfter, oneHotAnswer, prefixAnswer}
+use Rattle.rules.specs.Answers.{added, emission, emission_table, one_hot_after, one_hot_answer, prefix_answer}
 use Rattle.rules.specs.Bounds.{cell_max, net_max, node_run, nodes_max, width_max}
 use Rattle.rules.specs.Closed.{emits, muxes, nets_of}
 use Rattle.rules.specs.Emit.{Gives, Mux, appended, bad_table, emitted, in_use, one_hot, room}
@@ -143,7 +143,7 @@ module _ (g : Gives) (w : ℕ) (store : List ℕ) (root count : ℕ) (table : Li
       let N : List ℕ = (emitted g tree (in_use count table)).1 in
       let n : N ≡ nets_of g w count tree = nets_are g w can.wide tree low count table c ∙ ap (λ (k : ℕ). nets_of g w k tree) old_long in
       let a : added g tree count table ≡ emits g w count tree = added_is g w can.wide tree low count table c ∙ ap (λ (k : ℕ). emits g w k tree) old_long in
-      let l : length (added g tree count table) ≡ muxes w tree = added_length g w can.wide tree low count table c in
+      let l : length (added g tree count table) ≡ muxes w tree = added-length g w can.wide tree low count table c in
       let i0 : s.nets ≡ vec width_max 0 N = d.nets_are ∙ ap (vec width_max 0) (sym n) in
       let i1 : w ≡ length N = sym (ap length n ∙ nets-length g w count tree leaves) in
       let i2 : s.used ≡ count + length (added g tree count table) = d.used_is ∙ ap (λ (k : ℕ). count + k) (sym l) in
@@ -154,14 +154,14 @@ module _ (g : Gives) (w : ℕ) (store : List ℕ) (root count : ℕ) (table : Li
 
 module _ (g : Gives) (store : List ℕ) (root count : ℕ) (table : List ℕ) (m : ℕ) where
   -- a fault: its number, and the table as it was
-  pub fault : (n : ℕ) → m ≡ n → eqb n 0 ≡ false → (emitted_from (refused n) ≡ emitted_from (emission m g (tree_in store root) count table)) × (table ≡ emissionTable m g (tree_in store root) count table)
+  pub fault : (n : ℕ) → m ≡ n → eqb n 0 ≡ false → (emitted_from (refused n) ≡ emitted_from (emission m g (tree_in store root) count table)) × (table ≡ emission_table m g (tree_in store root) count table)
   fault n e z = (rw (e, z), rw (e, z))
 
   -- none but the room's
   pub faultless : m ≡ room_no g store root count table
-      → (placed g store root count table ≡ emission m g (tree_in store root) count table) × (placed_after g store root count table ≡ emissionTable m g (tree_in store root) count table)
+      → (placed g store root count table ≡ emission m g (tree_in store root) count table) × (placed_after g store root count table ≡ emission_table m g (tree_in store root) count table)
   unfolding placed placed_after
-  faultless e = (ap (λ (n : ℕ). emission n g (tree_in store root) count table) (sym e), ap (λ (n : ℕ). emissionTable n g (tree_in store root) count table) (sym e))
+  faultless e = (ap (λ (n : ℕ). emission n g (tree_in store root) count table) (sym e), ap (λ (n : ℕ). emission_table n g (tree_in store root) count table) (sym e))
 
 -- ---- one-hot
 
@@ -175,25 +175,25 @@ module _ (store : List ℕ) (root : ℕ) (outs : List ℕ) (count : ℕ) (table 
   abbrev number : ℕ
   number = refusal (one_hot_table store root outs count table)
 
-  pub hot_form : bad ≡ true → (emitted_from (refused FORM) ≡ emitted_from (oneHotAnswer store root outs count table)) × (table ≡ oneHotAfter store root outs count table)
-  unfolding oneHotAnswer oneHotAfter
+  pub hot_form : bad ≡ true → (emitted_from (refused FORM) ≡ emitted_from (one_hot_answer store root outs count table)) × (table ≡ one_hot_after store root outs count table)
+  unfolding one_hot_answer one_hot_after
   hot_form e = fault (one_hot outs) store root count table number FORM (rw e) refl
 
-  pub hot_net : bad ≡ false → all is_name outs ≡ false → (emitted_from (refused NET) ≡ emitted_from (oneHotAnswer store root outs count table)) × (table ≡ oneHotAfter store root outs count table)
-  unfolding oneHotAnswer oneHotAfter
+  pub hot_net : bad ≡ false → all is_name outs ≡ false → (emitted_from (refused NET) ≡ emitted_from (one_hot_answer store root outs count table)) × (table ≡ one_hot_after store root outs count table)
+  unfolding one_hot_answer one_hot_after
   hot_net e n = fault (one_hot outs) store root count table number NET (rw (e, n)) refl
 
-  pub hot_width : bad ≡ false → all is_name outs ≡ true → width_max < length outs → (emitted_from (refused WIDTH) ≡ emitted_from (oneHotAnswer store root outs count table)) × (table ≡ oneHotAfter store root outs count table)
-  unfolding oneHotAnswer oneHotAfter
+  pub hot_width : bad ≡ false → all is_name outs ≡ true → width_max < length outs → (emitted_from (refused WIDTH) ≡ emitted_from (one_hot_answer store root outs count table)) × (table ≡ one_hot_after store root outs count table)
+  unfolding one_hot_answer one_hot_after
   hot_width e n h = fault (one_hot outs) store root count table number WIDTH (rw (e, n, lt-ltb width_max (length outs) h)) refl
 
   pub hot_place : bad ≡ false → all is_name outs ≡ true → length outs ≤ width_max
-      → (placed (one_hot outs) store root count table ≡ oneHotAnswer store root outs count table) × (placed_after (one_hot outs) store root count table ≡ oneHotAfter store root outs count table)
-  unfolding oneHotAnswer oneHotAfter
+      → (placed (one_hot outs) store root count table ≡ one_hot_answer store root outs count table) × (placed_after (one_hot outs) store root count table ≡ one_hot_after store root outs count table)
+  unfolding one_hot_answer one_hot_after
   hot_place e n h = faultless (one_hot outs) store root count table number (rw (e, n, le-ltb width_max (length outs) h))
 
   pub hot_can : tree_at store root ≡ some (tree_in store root) → bad_table count table ≡ false → length outs ≤ width_max → CanPlace (one_hot outs) (length outs) store root count table
-  hot_can t b h = record { there = t; wide = oneHot-wide outs; narrow = h; formed = b }
+  hot_can t b h = record { there = t; wide = one_hot_wide outs; narrow = h; formed = b }
 
 -- ---- what the check of a tree says
 
@@ -206,14 +206,14 @@ module _ (store : List ℕ) (root : ℕ) (outs es : List ℕ) where
   abbrev unfit : Bool
   unfit = is_none (tree_at store root) || not (all is_net outs && all is_net es)
 
-  pub prefix-form : unfit ≡ true → refused FORM ≡ prefixAnswer store root outs es
-  unfolding prefixAnswer
+  pub prefix-form : unfit ≡ true → refused FORM ≡ prefix_answer store root outs es
+  unfolding prefix_answer
   prefix-form e = rw e
 
-  pub prefix-net : unfit ≡ false → (all is_name outs && all is_name es) ≡ false → refused NET ≡ prefixAnswer store root outs es
-  unfolding prefixAnswer
+  pub prefix-net : unfit ≡ false → (all is_name outs && all is_name es) ≡ false → refused NET ≡ prefix_answer store root outs es
+  unfolding prefix_answer
   prefix-net e n = rw (e, n)
 
-  pub prefix-done : (k : ℕ) → unfit ≡ false → (all is_name outs && all is_name es) ≡ true → k ≡ prefix outs (tree_in store root) es → done k ≡ prefixAnswer store root outs es
-  unfolding prefixAnswer
+  pub prefix-done : (k : ℕ) → unfit ≡ false → (all is_name outs && all is_name es) ≡ true → k ≡ prefix outs (tree_in store root) es → done k ≡ prefix_answer store root outs es
+  unfolding prefix_answer
   prefix-done k e n q = rw (e, n) (ap done q)

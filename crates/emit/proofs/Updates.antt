@@ -16,8 +16,8 @@ use Rattle.lists.specs.Lists.{all}
 use Rattle.muxes.proofs.Leaves.{any_tree}
 use Rattle.muxes.proofs.Spans.{up, updates_more}
 use Rattle.muxes.specs.Leaves.{any_leaf}
-use Rattle.rules.proofs.Answers.{disjoint-wide}
-use Rattle.rules.specs.Answers.{disjointAfter, disjointAnswer}
+use Rattle.rules.proofs.Answers.{disjoint_wide}
+use Rattle.rules.specs.Answers.{disjoint_after, disjoint_answer}
 use Rattle.rules.specs.Bounds.{cell_max, net_max, node_run, width_max}
 use Rattle.rules.specs.Closed.{Low, Updates}
 use Rattle.rules.specs.Emit.{Update, bad_table, disjoint, overlap, updates_of}
@@ -100,10 +100,10 @@ module _ (store : List ℕ) (root : ℕ) (ns ws bs d : List ℕ) (count : ℕ) (
   number = refusal (disjoint_table store root us d count table)
 
   abbrev Refuses : ℕ → Type 0
-  Refuses n = (emitted_from (refused n) ≡ emitted_from (disjointAnswer store root ns ws bs d count table)) × (table ≡ disjointAfter store root ns ws bs d count table)
+  Refuses n = (emitted_from (refused n) ≡ emitted_from (disjoint_answer store root ns ws bs d count table)) × (table ≡ disjoint_after store root ns ws bs d count table)
 
   refuses : (n : ℕ) → number ≡ n → eqb n 0 ≡ false → Refuses n
-  unfolding disjointAnswer disjointAfter
+  unfolding disjoint_answer disjoint_after
   refuses n e z = fault (disjoint us d) store root count table number n e z
 
   -- 12
@@ -182,14 +182,14 @@ module _ (store : List ℕ) (root : ℕ) (ns ws bs d : List ℕ) (count : ℕ) (
       let m = z.named in
       record {
         there = m.formed.there;
-        wide = disjoint-wide (length d) us d (good-updates (length d) us m.updates_are z.updates_are) (refl, low-nets d m.default_is);
+        wide = disjoint_wide (length d) us d (good-updates (length d) us m.updates_are z.updates_are) (refl, low-nets d m.default_is);
         narrow = z.narrow;
         formed = m.formed.table_is;
       }
 
   pub disjoint-place : Sized → (r : Bool) → r ≡ any_leaf (overlap us) (length (take (node_run * (root + 1)) store) / node_run) (take (node_run * (root + 1)) store) → r ≡ false
-      → (placed (disjoint us d) store root count table ≡ disjointAnswer store root ns ws bs d count table) × (placed_after (disjoint us d) store root count table ≡ disjointAfter store root ns ws bs d count table)
-  unfolding disjointAnswer disjointAfter
+      → (placed (disjoint us d) store root count table ≡ disjoint_answer store root ns ws bs d count table) × (placed_after (disjoint us d) store root count table ≡ disjoint_after store root ns ws bs d count table)
+  unfolding disjoint_answer disjoint_after
   disjoint-place z r e q =
       let m = z.named in
       faultless (disjoint us d) store root count table number (rw (fair m.formed, m.updates_are, m.default_is, le-ltb width_max (length d) z.narrow, z.updates_are, leaves_are z r false e q))

@@ -6,7 +6,7 @@ use Rattle.emit.specs.declared.Together.TheVariants.{Length, Refused}
 use Rattle.emit.specs.declared.Together.{Together}
 use Rattle.lists.specs.Lists.{all}
 use Rattle.lists.specs.Vec.{vec}
-use Rattle.rules.specs.Answers.{emission, emissionTable}
+use Rattle.rules.specs.Answers.{emission, emission_table}
 use Rattle.rules.specs.Bounds.{width_max}
 use Rattle.rules.specs.Closed.{Wide}
 use Rattle.rules.specs.Emit.{Gives, Update, bad_table}
@@ -29,7 +29,7 @@ unfoldable pub placed : Gives → List ℕ → ℕ → ℕ → List ℕ → Outc
 placed g store root count table = emission (room_no g store root count table) g (tree_in store root) count table
 
 unfoldable pub placed_after : Gives → List ℕ → ℕ → ℕ → List ℕ → List ℕ
-placed_after g store root count table = emissionTable (room_no g store root count table) g (tree_in store root) count table
+placed_after g store root count table = emission_table (room_no g store root count table) g (tree_in store root) count table
 
 -- a code in a range
 abbrev pub between : ℕ → ℕ → ℕ → Bool

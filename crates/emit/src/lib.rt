@@ -4,7 +4,7 @@ ghost use Rattle.std.specs.Prelude.{length, ◌≡◌};
 ghost use Rattle.emit.specs.Calls.{CanPlace, between, emitted_from, placed, placed_after, prefix_read, update_in, update_wide};
 ghost use Rattle.lists.specs.Lists.{all};
 ghost use Rattle.muxes.specs.Sends.{gives};
-ghost use Rattle.rules.specs.Answers.{disjointAfter, disjointAnswer, oneHotAfter, oneHotAnswer, prefixAnswer};
+ghost use Rattle.rules.specs.Answers.{disjoint_after, disjoint_answer, one_hot_after, one_hot_answer, prefix_answer};
 ghost use Rattle.rules.specs.Emit.{updates_of};
 ghost use Rattle.rules.specs.Refuse.{refused};
 
@@ -60,7 +60,7 @@ pub fn one_hot(
     count: usize,
     table: &mut [u16],
 ) -> Emitted
-    ensures { (result ≡ emitted_from (oneHotAnswer store.now root.0 outputs.now count table.old)) × (table.new ≡ oneHotAfter store.now root.0 outputs.now count table.old) }
+    ensures { (result ≡ emitted_from (one_hot_answer store.now root.0 outputs.now count table.old)) × (table.new ≡ one_hot_after store.now root.0 outputs.now count table.old) }
 {
     let tree::Checked::Tree(_) = tree::check(store, root) else {
         return refuse(rules::FORM);
@@ -95,7 +95,7 @@ pub fn disjoint(
     count: usize,
     table: &mut [u16],
 ) -> Emitted
-    ensures { (result ≡ emitted_from (disjointAnswer store.now root.0 nets.now widths.now bits.now default.now count table.old)) × (table.new ≡ disjointAfter store.now root.0 nets.now widths.now bits.now default.now count table.old) }
+    ensures { (result ≡ emitted_from (disjoint_answer store.now root.0 nets.now widths.now bits.now default.now count table.old)) × (table.new ≡ disjoint_after store.now root.0 nets.now widths.now bits.now default.now count table.old) }
 {
     let tree::Checked::Tree(_) = tree::check(store, root) else {
         return refuse(rules::FORM);
@@ -176,7 +176,7 @@ fn updates_wide(nets: &[u16], widths: &[usize], bits: &[u16], width: usize) -> b
 
 // How many enables, from the first on, may stand together: no leaf names two positions.
 pub fn prefix(store: &[u16], root: rules::Place, outputs: &[u16], enables: &[u16]) -> Together
-    ensures { prefix_read result ≡ prefixAnswer store.now root.0 outputs.now enables.now }
+    ensures { prefix_read result ≡ prefix_answer store.now root.0 outputs.now enables.now }
 {
     let tree::Checked::Tree(_) = tree::check(store, root) else {
         return Together::Refused(rules::FORM);

@@ -16,7 +16,7 @@ use Rattle.lists.specs.Runs.{runs}
 use Rattle.rules.proofs.Answers.{run_length}
 use Rattle.rules.proofs.Entries.{in_use-length}
 use Rattle.rules.proofs.Tables.{net_more}
-use Rattle.rules.specs.Answers.{evaluateAnswer}
+use Rattle.rules.specs.Answers.{evaluate_answer}
 use Rattle.rules.specs.Bounds.{mux_first, mux_run}
 use Rattle.rules.specs.Codes.{net_code, trit_code}
 use Rattle.rules.specs.Emit.{Mux, bad_table, formed, in_use, mux_of, room}
@@ -264,14 +264,14 @@ mux_of_lem s s' a a' b b' p q r = λ i. mux (p i) (q i) (r i)
 -- ---- the answer
 
 pub answer_bad : (count : ℕ) (xs ts : List ℕ) (asked : ℕ) → (bad_table count xs || (not (all is_trit (take mux_first ts)) || leb (first_mux + count) asked)) ≡ true
-    → evaluateAnswer count xs ts asked ≡ refused FORM
-unfolding evaluateAnswer
+    → evaluate_answer count xs ts asked ≡ refused FORM
+unfolding evaluate_answer
 answer_bad count xs ts asked e = rw e
 
 pub answer_good : (count : ℕ) (xs ts old values : List ℕ) (asked : ℕ) (t : Trit) → bad_table count xs ≡ false → Given ts → leb (first_mux + count) asked ≡ false
     → values ≡ run (reads ts) [] (in_use count xs) ++ drop count old → trit_code t ≡ cut (net_in (reads ts) values asked)
-    → done (trit_code t) ≡ evaluateAnswer count xs ts asked
-unfolding evaluateAnswer evaluated
+    → done (trit_code t) ≡ evaluate_answer count xs ts asked
+unfolding evaluate_answer evaluated
 answer_good count xs ts old values asked t b e a i r =
     let T : List Mux = in_use count xs in
     let vs : List ℕ = run (reads ts) [] T in

@@ -3,7 +3,7 @@
 ghost use Rattle.std.specs.Prelude.{◌+◌, ◌≤◌, min, leb, drop, get_or, length, take, false, not, true, [], ◌++◌, ◌≡◌};
 ghost use Rattle.evaluate.specs.Values.{reads, value_read};
 ghost use Rattle.lists.specs.Lists.{all};
-ghost use Rattle.rules.specs.Answers.{evaluateAnswer};
+ghost use Rattle.rules.specs.Answers.{evaluate_answer};
 ghost use Rattle.rules.specs.Bounds.{mux_first, mux_max};
 ghost use Rattle.rules.specs.Codes.{net_code, trit_code};
 ghost use Rattle.rules.specs.Emit.{bad_table, in_use};
@@ -24,7 +24,7 @@ pub enum Value {
 const GIVEN: usize = rules::CELL_MAX as usize + 1;
 
 pub fn evaluate(table: &[u16], count: usize, trits: &[u8], asked: rules::Net) -> Value
-    ensures { value_read result ≡ evaluateAnswer count table.now trits.now (net_code asked) }
+    ensures { value_read result ≡ evaluate_answer count table.now trits.now (net_code asked) }
 {
     if !inner::formed(table, count) {
         return Value::Refused(rules::FORM);

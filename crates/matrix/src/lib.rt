@@ -3,7 +3,7 @@
 ghost use Rattle.std.specs.Prelude.{◌≡◌};
 ghost use Rattle.matrix.specs.Mat.{given, made_from};
 ghost use Rattle.matrix.specs.Outs.{outputs_from};
-ghost use Rattle.rules.specs.Answers.{addAnswer, assumeAnswer, enableAnswer, mergeAnswer, newAnswer, normalizeAnswer, outputsAnswer};
+ghost use Rattle.rules.specs.Answers.{add_answer, assume_answer, enable_answer, merge_answer, new_answer, normalize_answer, outputs_answer};
 ghost use Rattle.rules.specs.Codes.{net_code, trit_code};
 
 #[repr(C)]
@@ -48,7 +48,7 @@ pub mod inner;
 impl Matrix {
     // A refused new matrix is the one without columns and rows.
     pub fn new(nets: &[u16]) -> Made
-        ensures { result ≡ made_from (newAnswer nets.now) }
+        ensures { result ≡ made_from (new_answer nets.now) }
     {
         let no = inner::numbers::new(nets);
         if no != 0 {
@@ -65,7 +65,7 @@ impl Matrix {
 
     // One row more, the last, with its rules as a set.
     pub fn add(mut self, pattern: &[u8], rules: &[u16]) -> Made
-        ensures { result ≡ made_from (addAnswer pattern.now rules.now (given self)) }
+        ensures { result ≡ made_from (add_answer pattern.now rules.now (given self)) }
     {
         let set = sets::inner::collect(rules);
         let no = inner::numbers::add(self, pattern, rules, set.many);
@@ -86,7 +86,7 @@ impl Matrix {
 
     // Every row that names the net is joined with each of the child's.
     pub fn merge(mut self, at: rules::Net, child: Matrix) -> Made
-        ensures { result ≡ made_from (mergeAnswer (net_code at) (given self) (given child)) }
+        ensures { result ≡ made_from (merge_answer (net_code at) (given self) (given child)) }
     {
         let t = trits::inner::code(at);
         let no = inner::numbers::merge(self, t, child);
@@ -107,7 +107,7 @@ impl Matrix {
 
     // The target becomes the constant in every column that has it.
     pub fn assume(mut self, target: rules::Net, value: rules::Trit) -> Made
-        ensures { result ≡ made_from (assumeAnswer (net_code target) (trit_code value) (given self)) }
+        ensures { result ≡ made_from (assume_answer (net_code target) (trit_code value) (given self)) }
     {
         let t = trits::inner::code(target);
         let no = inner::numbers::assume(self, t);
@@ -128,7 +128,7 @@ impl Matrix {
 
     // A last column for the enable and a first row without rules, but for the constant 1.
     pub fn add_enable(mut self, enable: rules::Net) -> Made
-        ensures { result ≡ made_from (enableAnswer (net_code enable) (given self)) }
+        ensures { result ≡ made_from (enable_answer (net_code enable) (given self)) }
     {
         let e = trits::inner::code(enable);
         let no = inner::numbers::add_enable(self, e);
@@ -147,7 +147,7 @@ impl Matrix {
     }
 
     pub fn normalize(mut self) -> Made
-        ensures { result ≡ made_from (normalizeAnswer (given self)) }
+        ensures { result ≡ made_from (normalize_answer (given self)) }
     {
         let no = inner::check::check(self);
         if no != 0 {
@@ -166,7 +166,7 @@ impl Matrix {
 
     // All rules of all rows, ascending, each once.
     pub fn outputs(self) -> Outputs
-        ensures { result ≡ outputs_from (outputsAnswer (given self)) }
+        ensures { result ≡ outputs_from (outputs_answer (given self)) }
     {
         let no = inner::check::check(self);
         if no != 0 {

@@ -17,9 +17,9 @@ abbrev pub entry : ℕ → ℕ → ℕ → Mux
 entry t x y = record { select = t; one_arm = x; zero_arm = y }
 
 -- three stores write an entry
-pub entry_put : (k a b d : ℕ) (xs : List ℕ) → mux_run * (k + 1) ≤ length xs → set (set (set xs (mux_run * k) a) (mux_run * k + 1) b) (mux_run * k + 2) d ≡ appended k (entry a b d ∷ []) xs
+pub entry-put : (k a b d : ℕ) (xs : List ℕ) → mux_run * (k + 1) ≤ length xs → set (set (set xs (mux_run * k) a) (mux_run * k + 1) b) (mux_run * k + 2) d ≡ appended k (entry a b d ∷ []) xs
 unfolding flat
-entry_put k a b d xs h =
+entry-put k a b d xs h =
     let p : ℕ = mux_run * k in
     let e1 : p + 1 ≡ suc p = omega arith in
     let e2 : p + 2 ≡ suc (suc p) = omega arith in

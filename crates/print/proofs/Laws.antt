@@ -13,13 +13,13 @@ pub put_nil : (d : List ℕ) (at : ℕ) → put_at d at [] ≡ d
 unfolding put_at
 put_nil d at = simp (add-zero, take-append-drop)
 
-pub put_set : (d : List ℕ) (at b : ℕ) → at < length d → set d at b ≡ put_at d at (b ∷ [])
+pub put-set : (d : List ℕ) (at b : ℕ) → at < length d → set d at b ≡ put_at d at (b ∷ [])
 unfolding put_at
-put_set d at b h = rw (add-one, set_split d at b h)
+put-set d at b h = rw (add-one, set_split d at b h)
 
-pub put_length : (d : List ℕ) (at : ℕ) (bs : List ℕ) → Room d at bs → length (put_at d at bs) ≡ length d
+pub put-length : (d : List ℕ) (at : ℕ) (bs : List ℕ) → Room d at bs → length (put_at d at bs) ≡ length d
 unfolding put_at
-put_length d at bs h = simp (length-append, length-take-le at d (omega arith), length-drop) (omega arith)
+put-length d at bs h = simp (length-append, length-take-le at d (omega arith), length-drop) (omega arith)
 
 front : (d : List ℕ) (at : ℕ) (xs : List ℕ) → Room d at xs → length (take at d ++ xs) ≡ at + length xs
 front d at xs h = simp (length-append, length-take-le at d (omega arith))
@@ -27,9 +27,9 @@ front d at xs h = simp (length-append, length-take-le at d (omega arith))
 core : (p r ys : List ℕ) (n m : ℕ) → length p ≡ n → take n (p ++ r) ++ (ys ++ drop (n + m) (p ++ r)) ≡ p ++ (ys ++ drop m r)
 core p r ys n m f = rw (take_at p r n f, ← f, drop-append-add)
 
-pub put_put : (d : List ℕ) (at : ℕ) (xs ys : List ℕ) → Room d at xs → put_at (put_at d at xs) (at + length xs) ys ≡ put_at d at (xs ++ ys)
+pub put-put : (d : List ℕ) (at : ℕ) (xs ys : List ℕ) → Room d at xs → put_at (put_at d at xs) (at + length xs) ys ≡ put_at d at (xs ++ ys)
 unfolding put_at
-put_put d at xs ys h =
+put-put d at xs ys h =
     rw (← append_assoc (take at d) xs (drop (at + length xs) d), core (take at d ++ xs) (drop (at + length xs) d) ys (at + length xs) (length ys) (front d at xs h), drop-drop)
     (simp (length-append, append_assoc, add_assoc))
 
@@ -51,9 +51,9 @@ pub todo_more : {d₀ : List ℕ} {at₀ : ℕ} {all d : List ℕ} {a : ℕ} (xs
 todo_more {d} {a} xs ys t h p =
     let room : Room d a xs = todo_room xs ys t h in
     record {
-      same = rw (p.next, p.text, put_put d a xs ys room) t.same;
+      same = rw (p.next, p.text, put-put d a xs ys room) t.same;
       end = rw p.next (simp (length-append, ← add_assoc) at t.end);
-      long = rw (p.text, put_length d a xs room) t.long;
+      long = rw (p.text, put-length d a xs room) t.long;
     }
 
 -- nothing is left
@@ -81,7 +81,7 @@ pub put_then : {d : List ℕ} {at : ℕ} {xs ys e f : List ℕ} {a r : ℕ} → 
 put_then {d} {at} {xs} {ys} room p q =
     record {
       next = q.next ∙ simp (p.next, length-append, add_assoc);
-      text = q.text ∙ rw (p.text, p.next) (put_put d at xs ys room);
+      text = q.text ∙ rw (p.text, p.next) (put-put d at xs ys room);
     }
 
 -- a put of an equal text

@@ -21,7 +21,7 @@ use Rattle.rules.proofs.Goods.{good-view}
 use Rattle.rules.proofs.Longest.{printed-length, text_max}
 use Rattle.rules.proofs.Picks.{none_applies}
 use Rattle.rules.proofs.Words.{names-low}
-use Rattle.rules.specs.Answers.{printAfter, printAnswer}
+use Rattle.rules.specs.Answers.{print_after, print_answer}
 use Rattle.rules.specs.Bounds.{columns_max, rows_max, rules_max}
 use Rattle.rules.specs.Given.{Given, GivenRow, Slots, bad_columns, bad_form, bad_net, bad_rows, bad_rules, bad_shape, matrix_table, view, view_row}
 use Rattle.rules.specs.Matrix.{Row as RowOf}
@@ -58,25 +58,25 @@ last false false false false false false true h = refl
 last false false false false false false false h = refl
 
 module _ (g : Given) (out : List ℕ) where
-  refuses : (n : ℕ) → refusal (print_table g out) ≡ n → (n ≡ 0 → ⊥) → (refused n ≡ printAnswer g out) × (out ≡ printAfter g out)
-  unfolding printAnswer printAfter
+  refuses : (n : ℕ) → refusal (print_table g out) ≡ n → (n ≡ 0 → ⊥) → (refused n ≡ print_answer g out) × (out ≡ print_after g out)
+  unfolding print_answer print_after
   refuses n e h = rw (e, ne_eqb n 0 h) (refl, refl)
 
-  pub by_check : (n : ℕ) → n ≡ refusal (matrix_table g) → (n ≡ 0 → ⊥) → (refused n ≡ printAnswer g out) × (out ≡ printAfter g out)
+  pub by_check : (n : ℕ) → n ≡ refusal (matrix_table g) → (n ≡ 0 → ⊥) → (refused n ≡ print_answer g out) × (out ≡ print_after g out)
   by_check n e h =
       refuses n (other (bad_form g) (bad_columns g) (bad_rows g) (bad_shape g) (bad_net g) (bad_rules g) (ltb (length out) (length (printed (view g)))) (λ q. h (e ∙ q)) ∙ sym e) h
 
   room_is : refusal (matrix_table g) ≡ 0 → refusal (print_table g out) ≡ cond (ltb (length out) (length (printed (view g)))) ROOM 0
   room_is e = last (bad_form g) (bad_columns g) (bad_rows g) (bad_shape g) (bad_net g) (bad_rules g) (ltb (length out) (length (printed (view g)))) e
 
-  pub by_room : refusal (matrix_table g) ≡ 0 → length out < length (printed (view g)) → (refused ROOM ≡ printAnswer g out) × (out ≡ printAfter g out)
+  pub by_room : refusal (matrix_table g) ≡ 0 → length out < length (printed (view g)) → (refused ROOM ≡ print_answer g out) × (out ≡ print_after g out)
   by_room e h =
       let q : refusal (print_table g out) ≡ ROOM = room_is e ∙ ap (λ (b : Bool). cond b ROOM 0) (lt-ltb (length out) (length (printed (view g))) h) in
       refuses ROOM q (λ z. omega arith)
 
   pub by_text : refusal (matrix_table g) ≡ 0 → length (printed (view g)) ≤ length out
-      → (done (length (printed (view g))) ≡ printAnswer g out) × (printed (view g) ++ drop (length (printed (view g))) out ≡ printAfter g out)
-  unfolding printAnswer printAfter
+      → (done (length (printed (view g))) ≡ print_answer g out) × (printed (view g) ++ drop (length (printed (view g))) out ≡ print_after g out)
+  unfolding print_answer print_after
   by_text e h =
       let q : refusal (print_table g out) ≡ 0 = room_is e ∙ ap (λ (b : Bool). cond b ROOM 0) (le-ltb (length out) (length (printed (view g))) h) in
       rw q (refl, refl)
@@ -145,7 +145,7 @@ take_put d bs e r p =
 
 -- the whole call: the text in a buffer of its own, then in front of the lent bytes
 pub printed_whole : (g : Given) (out zeros buf e : List ℕ) (n r : ℕ) → refusal (matrix_table g) ≡ 0 → n ≤ length out → Put zeros 0 (printed (view g)) buf n → Put out 0 (take n buf) e r
-    → (done n ≡ printAnswer g out) × (e ≡ printAfter g out)
+    → (done n ≡ print_answer g out) × (e ≡ print_after g out)
 printed_whole g out zeros buf e n r h k p q =
     let l : n ≡ length (printed (view g)) = omega (arith, p.next) in
     let t = by_text g out h (omega arith) in

@@ -208,8 +208,8 @@ pub value_at-trit : (τ : Trits) → ((k : ℕ) → τ k ≤ 2) → Reads (value
 value_at-trit τ h = record { one_is = refl; zero_is = refl; small = λ n. by_bool (is_cell n) (λ p. rw p (h (n - 3))) (λ p. let l = leb-false 3 n p in rw p (omega arith)) }
 
 -- where a filling is known to be one, known bits stay
-pub made_under : (add : Adder) → Adds add → (τ : Trits) (σ : Setting) → ((k : ℕ) → τ k ≤ 2) → Fills τ σ → (g : Gives) (w : ℕ) (t : Tree) → Fine g w t → (T : List Mux) (i : ℕ)
+pub made-under : (add : Adder) → Adds add → (τ : Trits) (σ : Setting) → ((k : ℕ) → τ k ≤ 2) → Fills τ σ → (g : Gives) (w : ℕ) (t : Tree) → Fine g w t → (T : List Mux) (i : ℕ)
     → Under (get_or (map (net_in (value_at τ) (vals (value_at τ) (build add g t T).0)) (build add g t T).1) i 2) (get_or (map (net_in (value σ) (vals (value σ) (build add g t T).0)) (build add g t T).1) i 2)
-made_under add good τ σ small f g w t h T i =
+made-under add good τ σ small f g w t h T i =
     rw ((made add good (value_at τ) (value_at-trit τ small) g w t h T).reads, (made add good (value σ) (value-trit σ) g w t h T).reads)
     (bits_under (value_at τ) (value σ) (λ n l. fills-nets τ σ f n) g w t h i)

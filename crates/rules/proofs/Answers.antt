@@ -39,9 +39,9 @@ run_more f vs (x ∷ xs) =
     let r = run_more f (vs ++ (v ∷ [])) xs in
     (v ∷ r.0, r.1 ∙ append_assoc vs (v ∷ []) r.0)
 
-pub answers-bits : (f : ℕ → ℕ) (g : Gives) (w : ℕ) (old more : List Mux) (t : Tree) → Fine g w t → answers f g w old more t ≡ bits_of f g t
+pub answers_bits : (f : ℕ → ℕ) (g : Gives) (w : ℕ) (old more : List Mux) (t : Tree) → Fine g w t → answers f g w old more t ≡ bits_of f g t
 unfolding run
-answers-bits f g w old more t h =
+answers_bits f g w old more t h =
     let vs : List ℕ = run f [] old in
     let l : length vs ≡ length old = run_length f [] old ∙ none_before in
     let r = ran f g w t h vs in
@@ -63,40 +63,40 @@ fine_of g w h (leaf rs) c = (h.width rs, h.small rs)
 fine_of g w h (node t z o) c = (c.0, fine_of g w h z c.1, fine_of g w h o c.2)
 
 -- one-hot
-pub hot-at : (outs rs : List ℕ) (i : ℕ) → i < length outs → get_or (one_hot outs rs) i 2 ≡ bit (mem (get_or outs i 0) rs)
-hot-at [] rs i h = absurd (omega arith)
-hot-at (q ∷ outs) rs zero h = refl
-hot-at (q ∷ outs) rs (suc i) h = hot-at outs rs i (omega arith)
+pub hot_at : (outs rs : List ℕ) (i : ℕ) → i < length outs → get_or (one_hot outs rs) i 2 ≡ bit (mem (get_or outs i 0) rs)
+hot_at [] rs i h = absurd (omega arith)
+hot_at (q ∷ outs) rs zero h = refl
+hot_at (q ∷ outs) rs (suc i) h = hot_at outs rs i (omega arith)
 
 bit-small : (b : Bool) → bit b < first_mux
 bit-small true = omega arith
 bit-small false = omega arith
 
-hot-low : (outs rs : List ℕ) → Low first_mux (one_hot outs rs)
+hot_low : (outs rs : List ℕ) → Low first_mux (one_hot outs rs)
 unfolding Low
-hot-low [] rs = tt
-hot-low (q ∷ outs) rs = (bit-small (mem q rs), hot-low outs rs)
+hot_low [] rs = tt
+hot_low (q ∷ outs) rs = (bit-small (mem q rs), hot_low outs rs)
 
-pub oneHot-wide : (outs : List ℕ) → Wide (one_hot outs) (length outs)
-oneHot-wide outs = record { width = λ rs. length-map outs (λ (q : ℕ). bit (mem q rs)); small = λ rs. hot-low outs rs }
+pub one_hot_wide : (outs : List ℕ) → Wide (one_hot outs) (length outs)
+one_hot_wide outs = record { width = λ rs. length-map outs (λ (q : ℕ). bit (mem q rs)); small = λ rs. hot_low outs rs }
 
 value-bit : (σ : Setting) (b : Bool) → value σ (bit b) ≡ bit b
 value-bit σ true = refl
 value-bit σ false = refl
 
-pub oneHot-value : (σ : Setting) (outs rs : List ℕ) → map (value σ) (one_hot outs rs) ≡ one_hot outs rs
-oneHot-value σ [] rs = refl
-oneHot-value σ (q ∷ outs) rs = ap₂ ◌∷◌ (value-bit σ (mem q rs)) (oneHot-value σ outs rs)
+pub one_hot-value : (σ : Setting) (outs rs : List ℕ) → map (value σ) (one_hot outs rs) ≡ one_hot outs rs
+one_hot-value σ [] rs = refl
+one_hot-value σ (q ∷ outs) rs = ap₂ ◌∷◌ (value-bit σ (mem q rs)) (one_hot-value σ outs rs)
 
 -- disjoint
 abbrev Fits : ℕ → Option (List ℕ) → Type 0
 Fits w none = Unit {0}
 Fits w (some bits) = (length bits ≡ w) × Low first_mux bits
 
-for-fits : (w : ℕ) (us : List Update) (n : ℕ) → Updates w us → Fits w (update_for us n)
+for_fits : (w : ℕ) (us : List Update) (n : ℕ) → Updates w us → Fits w (update_for us n)
 unfolding update_for Updates
-for-fits w [] n h = tt
-for-fits w (u ∷ us) n h = first (update_for us n) (cond (lib.Dec.eqb u.target n) (some u.bits) none) (for-fits w us n h.2) (second (lib.Dec.eqb u.target n))
+for_fits w [] n h = tt
+for_fits w (u ∷ us) n h = first (update_for us n) (cond (lib.Dec.eqb u.target n) (some u.bits) none) (for_fits w us n h.2) (second (lib.Dec.eqb u.target n))
   where
     second : (b : Bool) → Fits w (cond b (some u.bits) none)
     second true = (h.0, h.1)
@@ -109,11 +109,11 @@ for-fits w (u ∷ us) n h = first (update_for us n) (cond (lib.Dec.eqb u.target 
 disjoint-fits : (w : ℕ) (us : List Update) (d : List ℕ) → Updates w us → (length d ≡ w) × Low first_mux d → (rs : List ℕ) → (length (disjoint us d rs) ≡ w) × Low first_mux (disjoint us d rs)
 unfolding disjoint
 disjoint-fits w us d h k [] = k
-disjoint-fits w us d h k (r ∷ rs) = choose (update_for us r) (for-fits w us r h) (disjoint us d rs) (disjoint-fits w us d h k rs)
+disjoint-fits w us d h k (r ∷ rs) = choose (update_for us r) (for_fits w us r h) (disjoint us d rs) (disjoint-fits w us d h k rs)
   where
     choose : (a : Option (List ℕ)) → Fits w a → (b : List ℕ) → (length b ≡ w) × Low first_mux b → (length (get_else a b) ≡ w) × Low first_mux (get_else a b)
     choose (some x) p b q = p
     choose none p b q = q
 
-pub disjoint-wide : (w : ℕ) (us : List Update) (d : List ℕ) → Updates w us → (length d ≡ w) × Low first_mux d → Wide (disjoint us d) w
-disjoint-wide w us d h k = record { width = λ rs. (disjoint-fits w us d h k rs).0; small = λ rs. (disjoint-fits w us d h k rs).1 }
+pub disjoint_wide : (w : ℕ) (us : List Update) (d : List ℕ) → Updates w us → (length d ≡ w) × Low first_mux d → Wide (disjoint us d) w
+disjoint_wide w us d h k = record { width = λ rs. (disjoint-fits w us d h k rs).0; small = λ rs. (disjoint-fits w us d h k rs).1 }

@@ -17,7 +17,7 @@ use Rattle.rules.proofs.Promised.{Dispatched, dispatched}
 use Rattle.rules.proofs.Reach.{reached_some, some_reached}
 use Rattle.rules.proofs.Sets.{ascends_says}
 use Rattle.rules.proofs.Tested.{dispatch-cells}
-use Rattle.rules.specs.Answers.{dispatchAnswer, dispatchStore}
+use Rattle.rules.specs.Answers.{dispatch_answer, dispatch_store}
 use Rattle.rules.specs.Bounds.{rules_max}
 use Rattle.rules.specs.Dispatch.{dispatch}
 use Rattle.rules.specs.Emit.{TwoUpdated, Update, overlap}
@@ -41,7 +41,7 @@ leaf_reached P v (node t z o) h =
 fine-ascends : (rs : List ℕ) → fine_leaf rs ≡ true → Ascends rs
 fine-ascends rs h = ascends_says rs (and_right (all is_name rs) (ascends rs) (and_right (leb (length rs) rules_max) (all is_name rs && ascends rs) h))
 
-module _ (e : ℕ) (g : Given) (slots : Slots g) (store : List ℕ) (root n : ℕ) (given : dispatchAnswer e g store ≡ done (root, n)) where
+module _ (e : ℕ) (g : Given) (slots : Slots g) (store : List ℕ) (root n : ℕ) (given : dispatch_answer e g store ≡ done (root, n)) where
   abbrev tree : Tree
   tree = dispatch e (view g)
 
@@ -67,9 +67,9 @@ module _ (e : ℕ) (g : Given) (slots : Slots g) (store : List ℕ) (root n : �
 
   module _ (us : List Update) (d : List ℕ) (count : ℕ) (table : List ℕ) where
     abbrev faults : List (ℕ × Bool)
-    faults = disjoint_table (dispatchStore e g store) root us d count table
+    faults = disjoint_table (dispatch_store e g store) root us d count table
 
-    tree_is : tree_in (dispatchStore e g store) root ≡ tree
+    tree_is : tree_in (dispatch_store e g store) root ≡ tree
     tree_is = ap found facts.tree
 
     pub overlap_is : applies FORM faults ≡ false → applies NET faults ≡ false → applies WIDTH faults ≡ false

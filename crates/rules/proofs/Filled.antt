@@ -8,7 +8,7 @@ use borrow.Author.Tests.{leb-true, lt-ltb}
 use lib.ListN.{get_or, take}
 use Rattle.lists.specs.Bools.{and_both, by_bool}
 use Rattle.lists.specs.Lists.{all}
-use Rattle.rules.proofs.Answers.{answers-bits}
+use Rattle.rules.proofs.Answers.{answers_bits}
 use Rattle.rules.proofs.Muxes.{Under, bits_under}
 use Rattle.rules.proofs.Tables.{Fine}
 use Rattle.rules.specs.Closed.{answers}
@@ -36,5 +36,5 @@ nets-under ts us f n l =
 pub answers_filled : (ts us : List ℕ) → Filling ts us → (g : Gives) (w : ℕ) (old : List Mux) (t : Tree) → Fine g w t → (i : ℕ)
     → Under (get_or (answers (value_at (trits_of ts)) g w old [] t) i 2) (get_or (answers (value_at (trits_of us)) g w old [] t) i 2)
 answers_filled ts us f g w old t h i =
-    rw (answers-bits (value_at (trits_of ts)) g w old [] t h, answers-bits (value_at (trits_of us)) g w old [] t h)
+    rw (answers_bits (value_at (trits_of ts)) g w old [] t h, answers_bits (value_at (trits_of us)) g w old [] t h)
     (bits_under (value_at (trits_of ts)) (value_at (trits_of us)) (nets-under ts us f) g w t h i)

@@ -10,7 +10,7 @@ use lib.ListN.{drop, length, replicate, take}
 use lib.Seq.{take_at}
 use Rattle.rules.proofs.Promised.{dispatched}
 use Rattle.rules.proofs.Stores.{encode-length, fine-fit}
-use Rattle.rules.specs.Answers.{dispatchAnswer, dispatchStore}
+use Rattle.rules.specs.Answers.{dispatch_answer, dispatch_store}
 use Rattle.rules.specs.Bounds.{node_run}
 use Rattle.rules.specs.Dispatch.{dispatch, peak_of}
 use Rattle.rules.specs.Given.{Given, Slots, view}
@@ -24,9 +24,9 @@ same_number : (e : ℕ) (g : Given) (store longer : List ℕ) → ltb (used stor
     → refusal (dispatch_table e g store) ≡ refusal (dispatch_table e g longer)
 same_number e g store longer h = rw h
 
-pub longer_answer : (e : ℕ) (g : Given) (store longer : List ℕ) (root n : ℕ) → Slots g → length store ≤ length longer → dispatchAnswer e g store ≡ done (root, n)
-    → dispatchAnswer e g longer ≡ done (root, n)
-unfolding dispatchAnswer
+pub longer_answer : (e : ℕ) (g : Given) (store longer : List ℕ) (root n : ℕ) → Slots g → length store ≤ length longer → dispatch_answer e g store ≡ done (root, n)
+    → dispatch_answer e g longer ≡ done (root, n)
+unfolding dispatch_answer
 longer_answer e g store longer root n s l a =
     let d = dispatched e g store root n s a in
     let p = d.taken.fits in
@@ -41,11 +41,11 @@ front_is : (t : Tree) (xs : List ℕ) → length (encode t) ≡ node_run * size 
 unfolding stored
 front_is t xs h = take_at (encode t) (replicate (node_run * used xs - node_run * size t) 0 ++ drop (node_run * used xs) xs) (node_run * size t) h
 
-pub tree_at-front : (e : ℕ) (g : Given) (store : List ℕ) (root n : ℕ) → Slots g → dispatchAnswer e g store ≡ done (root, n)
-    → take (node_run * n) (dispatchStore e g store) ≡ encode (dispatch e (view g))
+pub tree_at-front : (e : ℕ) (g : Given) (store : List ℕ) (root n : ℕ) → Slots g → dispatch_answer e g store ≡ done (root, n)
+    → take (node_run * n) (dispatch_store e g store) ≡ encode (dispatch e (view g))
 tree_at-front e g store root n s a =
     let d = dispatched e g store root n s a in
     let t : Tree = dispatch e (view g) in
-    ap (λ (k : ℕ). take (node_run * k) (dispatchStore e g store)) d.size_is
+    ap (λ (k : ℕ). take (node_run * k) (dispatch_store e g store)) d.size_is
     ∙ ap (take (node_run * size t)) d.after
     ∙ front_is t store (encode-length t (fine-fit t d.good))

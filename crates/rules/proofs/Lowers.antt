@@ -15,7 +15,7 @@ use Rattle.rules.proofs.Added.{build-plain, emits-length, muxes_are, nets-length
 use Rattle.rules.proofs.Answers.{fine_of}
 use Rattle.rules.proofs.Entries.{appended-in_use, appended-length, emits-formed, formed-append, in_use-length, nets_driven}
 use Rattle.rules.proofs.Tables.{Fine}
-use Rattle.rules.specs.Answers.{added, evaluateAnswer}
+use Rattle.rules.specs.Answers.{added, evaluate_answer}
 use Rattle.rules.specs.Bounds.{mux_first, mux_max, mux_run}
 use Rattle.rules.specs.Closed.{Low, Wide, answers, emits, muxes, nets_of}
 use Rattle.rules.specs.Emit.{Gives, Mux, appended, bad_table, emitted, formed, in_use, room}
@@ -76,8 +76,8 @@ module _ (g : Gives) (w : ℕ) (wide : Wide g w) (t : Tree) (small : Tests (λ (
   added_is = ap (λ (p : List Mux × List ℕ). drop (length old) p.0) emitted_is ∙ drop-append_seam old (emits g w (length old) t)
 
   -- "branches times width"
-  pub added_length : length (added g t count table) ≡ muxes w t
-  added_length = ap length added_is ∙ emits-length g w (length old) t fine
+  pub added-length : length (added g t count table) ≡ muxes w t
+  added-length = ap length added_is ∙ emits-length g w (length old) t fine
 
   total : length (emitted g t old).0 ≡ count + length (added g t count table)
   total =
@@ -87,7 +87,7 @@ module _ (g : Gives) (w : ℕ) (wide : Wide g w) (t : Tree) (small : Tests (λ (
   -- as many are appended, and there is no room exactly where they exceed what is left
   pub needs : (length (added g t count table) ≡ branches t * w) × (no_room g t count table ≡ ltb (room table) (count + branches t * w))
   needs =
-      let a : length (added g t count table) ≡ branches t * w = added_length ∙ muxes_are w t in
+      let a : length (added g t count table) ≡ branches t * w = added-length ∙ muxes_are w t in
       (a, ap (ltb (room table)) (total ∙ ap (λ (n : ℕ). count + n) a))
 
   -- ---- and has the room
@@ -119,14 +119,14 @@ module _ (g : Gives) (w : ℕ) (wide : Wide g w) (t : Tree) (small : Tests (λ (
 
     -- each net of the value evaluates to the tree's bit
     pub evaluates : (ts : List ℕ) → all is_trit (take mux_first ts) ≡ true → (i : ℕ) → i < w
-        → evaluateAnswer then after ts (get_or (emitted g t old).1 i 0) ≡ done (get_or (answers (value_at (trits_of ts)) g w old [] t) i 2)
-    unfolding evaluateAnswer evaluated
+        → evaluate_answer then after ts (get_or (emitted g t old).1 i 0) ≡ done (get_or (answers (value_at (trits_of ts)) g w old [] t) i 2)
+    unfolding evaluate_answer evaluated
     evaluates ts k i h =
         let n : ℕ = get_or (emitted g t old).1 i 0 in
         let j : n ≡ get_or (nets_of g w (length old) t) i 0 = ap (λ (l : List ℕ). get_or l i 0) nets_are in
         let l = nets-length g w (length old) t fine in
         let low : n < first_mux + (length old + muxes w t) = rw j (low-at (first_mux + (length old + muxes w t)) (nets_of g w (length old) t) i (omega arith) (nets_driven g w (length old) t fine)) in
-        let asked : leb (first_mux + then) n ≡ false = lt-leb (first_mux + then) n (omega (arith, low, count_is, added_length)) in
+        let asked : leb (first_mux + then) n ≡ false = lt-leb (first_mux + then) n (omega (arith, low, count_is, added-length)) in
         let f : ℕ → ℕ = value_at (trits_of ts) in
         let v : get_or (answers f g w old [] t) i 2 ≡ net_in f (run f [] (old ++ (emits g w (length old) t ++ []))) (get_or (nets_of g w (length old) t) i 0) =
         get_d_map (net_in f (run f [] (old ++ (emits g w (length old) t ++ [])))) (nets_of g w (length old) t) i 2 (omega arith) in

@@ -8,7 +8,7 @@ use mathlib.Core.Path.{◌≡◌, refl, sym, ap, ◌∙◌, subst}
 use native.Mathlib.Nat.{add_assoc, add-zero}
 use native.Mathlib.Omega.{arith}
 use Rattle.lists.specs.Vec.{take-vec, vec}
-use Rattle.print.proofs.Laws.{put_nil, put_put, put_then}
+use Rattle.print.proofs.Laws.{put_nil, put-put, put_then}
 use Rattle.print.proofs.Numbers.{low-at}
 use Rattle.print.proofs.Prints.{take_put}
 use Rattle.print.proofs.Rows.{arrow, margin}
@@ -25,8 +25,8 @@ use Rattle.text.specs.Trees.{Laid, LeafFits, branch_line, last_rules, rule_end}
 
 -- ---- what is laid
 
-pub laid_put : {d : List ℕ} {at : ℕ} {bs e : List ℕ} {r : ℕ} → Put d at bs e r → Laid d at bs e r
-laid_put p = record { next = p.next; text = λ h. p.text }
+pub laid-put : {d : List ℕ} {at : ℕ} {bs e : List ℕ} {r : ℕ} → Put d at bs e r → Laid d at bs e r
+laid-put p = record { next = p.next; text = λ h. p.text }
 
 pub laid_short : (d : List ℕ) (at : ℕ) (bs : List ℕ) (r : ℕ) → length d < r → r ≡ at + length bs → Laid d at bs d r
 laid_short d at bs r h e = record { next = e; text = λ k. absurd (omega (arith, h, e, k)) }
@@ -45,7 +45,7 @@ laid_then {d} {at} {xs} {ys} {e} {f} {a} {r} l p q =
           let n = length-append xs ys in
           let room : Room d at xs = omega (arith, h, n) in
           let rest : Room e a ys = omega (arith, h, n, l, p.next) in
-          q.text rest ∙ rw (p.text room, p.next) (put_put d at xs ys room);
+          q.text rest ∙ rw (p.text room, p.next) (put-put d at xs ys room);
     }
 
 -- ---- the indent

@@ -19,7 +19,7 @@ use Rattle.rows.specs.declared.Nets.{Nets}
 use Rattle.rows.specs.declared.Row.{Row as Struct}
 use Rattle.rules.proofs.Reader.{first_off, first_on, fits, rows-off, rows_on}
 use Rattle.rules.proofs.Words.{all_append}
-use Rattle.rules.specs.Answers.{readAnswer, readMade}
+use Rattle.rules.specs.Answers.{read_answer, read_made}
 use Rattle.rules.specs.Bounds.{columns_max, rows_max}
 use Rattle.rules.specs.Bytes.{LF}
 use Rattle.rules.specs.Given.{spread_row, zero_given}
@@ -162,8 +162,8 @@ width h f =
 
 module _ (h : Nets) (f : HeadFits h) (s : List ℕ) (at : ℕ) (made : List Struct) (n a : ℕ) (r : Rowed h s at made n a) where
   -- the answer, by what is read
-  answer : (x : Read) → read_rows (nets_of h) r.list (lines (drop a s)) ≡ x → read_from (readMade x) ≡ read_from (readMade (read_rows (nets_of h) [] (lines (drop at s))))
-  answer x e = ap (λ (y : Read). read_from (readMade y)) (sym e ∙ r.joins)
+  answer : (x : Read) → read_rows (nets_of h) r.list (lines (drop a s)) ≡ x → read_from (read_made x) ≡ read_from (read_made (read_rows (nets_of h) [] (lines (drop at s))))
+  answer x e = ap (λ (y : Read). read_from (read_made y)) (sym e ∙ r.joins)
 
   module _ (t : Step) (p : Stepped h.columns s a t) where
     abbrev line : List ℕ
@@ -172,16 +172,16 @@ module _ (h : Nets) (f : HeadFits h) (s : List ℕ) (at : ℕ) (made : List Stru
     is_line : is_row_line (length (nets_of h)) line ≡ t.fine
     is_line = ap (λ (w : ℕ). is_row_line w line) (width h f) ∙ sym p.fine
 
-    refuses : fits (nets_of h) r.list line ≡ false → (y : ReadMade) → y ≡ read_from (readMade (wrong (n + 2))) → y ≡ read_from (readMade (read_rows (nets_of h) [] (lines (drop at s))))
+    refuses : fits (nets_of h) r.list line ≡ false → (y : ReadMade) → y ≡ read_from (read_made (wrong (n + 2))) → y ≡ read_from (read_made (read_rows (nets_of h) [] (lines (drop at s))))
     refuses g y e =
         let c : read_rows (nets_of h) r.list (lines (drop a s)) ≡ wrong (n + 2) =
         ap (read_rows (nets_of h) r.list) p.line ∙ rows-off (nets_of h) r.list line (lines (drop t.next s)) g ∙ ap (λ (k : ℕ). wrong (k + 2)) (sym r.count) in
         e ∙ answer (wrong (n + 2)) c
 
-    pub rowed_off : t.fine ≡ false → (y : ReadMade) → y ≡ read_from (readMade (wrong (n + 2))) → y ≡ read_from (readMade (read_rows (nets_of h) [] (lines (drop at s))))
+    pub rowed_off : t.fine ≡ false → (y : ReadMade) → y ≡ read_from (read_made (wrong (n + 2))) → y ≡ read_from (read_made (read_rows (nets_of h) [] (lines (drop at s))))
     rowed_off z = refuses (and_off (is_row_line (length (nets_of h)) line) (ltb (length r.list) rows_max) (is_line ∙ z))
 
-    pub rowed_full : n ≡ rows_max → (y : ReadMade) → y ≡ read_from (readMade (wrong (n + 2))) → y ≡ read_from (readMade (read_rows (nets_of h) [] (lines (drop at s))))
+    pub rowed_full : n ≡ rows_max → (y : ReadMade) → y ≡ read_from (read_made (wrong (n + 2))) → y ≡ read_from (read_made (read_rows (nets_of h) [] (lines (drop at s))))
     rowed_full z = refuses (and_late (is_row_line (length (nets_of h)) line) (ltb (length r.list) rows_max) (le-ltb (length r.list) rows_max (omega (arith, r.count))))
 
     pub rowed_more : t.fine ≡ true → (n ≡ rows_max → ⊥) → Rowed h s at (set made n t.row) (n + 1) t.next
@@ -208,7 +208,7 @@ module _ (h : Nets) (f : HeadFits h) (s : List ℕ) (at : ℕ) (made : List Stru
         }
 
   pub rowed_done : length s ≤ a → record { no = 0; line = 0; matrix = record { value = h.value; columns = h.columns; rows = made; count = n } }
-      ≡ read_from (readMade (read_rows (nets_of h) [] (lines (drop at s))))
+      ≡ read_from (read_made (read_rows (nets_of h) [] (lines (drop at s))))
   unfolding lines read_rows
   rowed_done k =
       let rs = r.list in
@@ -224,8 +224,8 @@ module _ (h : Nets) (f : HeadFits h) (s : List ℕ) (at : ℕ) (made : List Stru
 
 -- ---- the whole text
 
-pub none_read : (s : List ℕ) → length s ≡ 0 → readMade (wrong 1) ≡ readAnswer s
-unfolding lines read readAnswer read_lines
+pub none_read : (s : List ℕ) → length s ≡ 0 → read_made (wrong 1) ≡ read_answer s
+unfolding lines read read_answer read_lines
 none_read [] h = refl
 none_read (x ∷ s) h = absurd (omega arith)
 
@@ -244,9 +244,9 @@ module _ (s : List ℕ) (e : ℕ) (c : Cut s e) (t : Head) (q : t ≡ value_take
   unfolding value_taken
   is_first = sym (ap (λ (x : Head). x.fine) q)
 
-  pub head-off : t.fine ≡ false → readMade (wrong 1) ≡ readAnswer s
-  unfolding read readAnswer
-  head-off z = ap readMade (sym (ap read_lines c.line ∙ first_off first (lines (drop e s)) (is_first ∙ z)))
+  pub head-off : t.fine ≡ false → read_made (wrong 1) ≡ read_answer s
+  unfolding read read_answer
+  head-off z = ap read_made (sym (ap read_lines c.line ∙ first_off first (lines (drop e s)) (is_first ∙ z)))
 
   module _ (z : t.fine ≡ true) where
     head-nets : t.nets ≡ nets_from (nets_in first)
@@ -262,8 +262,8 @@ module _ (s : List ℕ) (e : ℕ) (c : Cut s e) (t : Head) (q : t ≡ value_take
     pub head-fits : HeadFits t.nets
     head-fits = record { few = omega (arith, head_few, ap (λ (x : Nets). x.columns) head-nets); tidy = head-nets ∙ ap nets_from (sym head_is) }
 
-    pub head_on : readMade (read_rows (nets_of t.nets) [] (lines (drop e s))) ≡ readAnswer s
-    unfolding read readAnswer
+    pub head_on : read_made (read_rows (nets_of t.nets) [] (lines (drop e s))) ≡ read_answer s
+    unfolding read read_answer
     head_on =
-        ap (λ (ns : List ℕ). readMade (read_rows ns [] (lines (drop e s)))) head_is
-        ∙ ap readMade (sym (ap read_lines c.line ∙ first_on first (lines (drop e s)) (is_first ∙ z)))
+        ap (λ (ns : List ℕ). read_made (read_rows ns [] (lines (drop e s)))) head_is
+        ∙ ap read_made (sym (ap read_lines c.line ∙ first_on first (lines (drop e s)) (is_first ∙ z)))

@@ -15,7 +15,7 @@ use Rattle.lists.specs.Lists.{all}
 use Rattle.print.proofs.Prints.{put_front}
 use Rattle.rules.proofs.Stores.{fine-fit}
 use Rattle.rules.proofs.Words.{names-low}
-use Rattle.rules.specs.Answers.{printTreeAfter, printTreeAnswer}
+use Rattle.rules.specs.Answers.{print_tree_after, print_tree_answer}
 use Rattle.rules.specs.Bounds.{node_run, nodes_max, rules_max}
 use Rattle.rules.specs.Given.{ascends}
 use Rattle.rules.specs.Nets.{is_name}
@@ -125,8 +125,8 @@ abbrev pub CanWalk : List ℕ → ℕ → Type 0
 CanWalk store root = HasTree (take (node_run * (root + 1)) store) × (length (take (node_run * (root + 1)) store) ≤ node_run * nodes_max)
 
 module _ (store : List ℕ) (root : ℕ) (out : List ℕ) where
-  pub tree-form : is_none (tree_at store root) ≡ true → (refused FORM ≡ printTreeAnswer store root out) × (out ≡ printTreeAfter store root out)
-  unfolding printTreeAnswer printTreeAfter
+  pub tree-form : is_none (tree_at store root) ≡ true → (refused FORM ≡ print_tree_answer store root out) × (out ≡ print_tree_after store root out)
+  unfolding print_tree_answer print_tree_after
   tree-form e = (rw e, rw e)
 
   module _ (there : tree_at store root ≡ some (tree_in store root)) where
@@ -143,15 +143,15 @@ module _ (store : List ℕ) (root : ℕ) (out : List ℕ) where
     pub can_walk : CanWalk store root
     can_walk = (record { tree = tree_in store root; ends = handed_ends store root (tree_in store root) there }, omega (arith, root_in, length-take-le (node_run * (root + 1)) store tree_in_lem))
 
-    pub tree-full : (d e : List ℕ) (need : ℕ) → Laid d 0 text e need → length out < need → (refused ROOM ≡ printTreeAnswer store root out) × (out ≡ printTreeAfter store root out)
-    unfolding printTreeAnswer printTreeAfter
+    pub tree-full : (d e : List ℕ) (need : ℕ) → Laid d 0 text e need → length out < need → (refused ROOM ≡ print_tree_answer store root out) × (out ≡ print_tree_after store root out)
+    unfolding print_tree_answer print_tree_after
     tree-full d e need p h =
         let n = ap is_none there in
         let l = lt-ltb (length out) (length text) (omega (arith, h, p.next)) in
         (rw (n, l), rw (n, l))
 
-    pub tree-done : (d e f : List ℕ) (need r : ℕ) → Laid d 0 text e need → need ≤ length out → Laid out 0 text f r → (done need ≡ printTreeAnswer store root out) × (f ≡ printTreeAfter store root out)
-    unfolding printTreeAnswer printTreeAfter
+    pub tree-done : (d e f : List ℕ) (need r : ℕ) → Laid d 0 text e need → need ≤ length out → Laid out 0 text f r → (done need ≡ print_tree_answer store root out) × (f ≡ print_tree_after store root out)
+    unfolding print_tree_answer print_tree_after
     tree-done d e f need r p h q =
         let n = ap is_none there in
         let l = le-ltb (length out) (length text) (omega (arith, h, p.next)) in

@@ -74,10 +74,10 @@ pub loose_low : (l : List ℕ) → all_low (loose_nets l) ≡ true
 unfolding loose_nets
 loose_low l = all-reverse low (scanned columns_max l 1) (scan_low columns_max l 1)
 
-pub nets_made : (l z f v : List ℕ) (r : ℕ) → f ≡ scanned columns_max l 1 ++ drop r z → r ≡ length (scanned columns_max l 1) → v ≡ vec columns_max 0 (reverse (take r f))
+pub nets-made : (l z f v : List ℕ) (r : ℕ) → f ≡ scanned columns_max l 1 ++ drop r z → r ≡ length (scanned columns_max l 1) → v ≡ vec columns_max 0 (reverse (take r f))
     → record { value = v; columns = r } ≡ nets_from (loose_nets l)
 unfolding loose_nets
-nets_made l z f v r e q p =
+nets-made l z f v r e q p =
     let n = scanned columns_max l 1 in
     let t : take r f ≡ n = ap (take r) e ∙ take_at n (drop r z) r (sym q) in
     let a : v ≡ vec columns_max 0 (reverse n) = p ∙ ap (λ (k : List ℕ). vec columns_max 0 (reverse k)) t in
@@ -145,9 +145,9 @@ module _ (l : List ℕ) (ns : Nets) (e : ns ≡ nets_from (loose_nets l)) where
 
 -- ---- rules, taken into a fresh array
 
-pub names_made : (l : List ℕ) (at : ℕ) (f : List ℕ) (r : ℕ) → f ≡ scanned rules_max l at ++ drop r (replicate rules_max 0) → r ≡ length (scanned rules_max l at)
+pub names-made : (l : List ℕ) (at : ℕ) (f : List ℕ) (r : ℕ) → f ≡ scanned rules_max l at ++ drop r (replicate rules_max 0) → r ≡ length (scanned rules_max l at)
     → record { items = f; count = r } ≡ rules_from (scanned rules_max l at)
-names_made l at f r e q =
+names-made l at f r e q =
     let n = scanned rules_max l at in
     let a : f ≡ vec rules_max 0 n = e ∙ ap (λ (k : ℕ). n ++ drop k (replicate rules_max 0)) q ∙ vec-drop rules_max n (scan_few rules_max l at) in
     λ i. record { items = a i; count = q i }

@@ -2,7 +2,7 @@
 // Nothing here changes a matrix or a tree, and no byte is written before it is known that all fit.
 ghost use Rattle.std.specs.Prelude.{◌≡◌};
 ghost use Rattle.matrix.specs.Mat.{given};
-ghost use Rattle.rules.specs.Answers.{printAfter, printAnswer, printTreeAfter, printTreeAnswer, readAnswer};
+ghost use Rattle.rules.specs.Answers.{print_after, print_answer, print_tree_after, print_tree_answer, read_answer};
 ghost use Rattle.text.specs.Calls.{printed_read, read_from};
 
 pub mod inner;
@@ -27,8 +27,8 @@ pub struct ReadMade {
 pub const TEXT_MAX: usize = inner::parse::VALUE_MAX + rules::ROWS_MAX * inner::parse::ROW_MAX;
 
 pub fn print(matrix: matrix::Matrix, out: &mut [u8]) -> Printed
-    ensures result_value { printed_read result ≡ printAnswer (given matrix) out.old }
-    ensures out_after { out.new ≡ printAfter (given matrix) out.old }
+    ensures result_value { printed_read result ≡ print_answer (given matrix) out.old }
+    ensures out_after { out.new ≡ print_after (given matrix) out.old }
 {
     let no = matrix::inner::check::check(matrix);
     if no != 0 {
@@ -45,8 +45,8 @@ pub fn print(matrix: matrix::Matrix, out: &mut [u8]) -> Printed
 
 // The whole need is known before the first byte: the walk that writes has counted before.
 pub fn print_tree(store: &[u16], root: rules::Place, out: &mut [u8]) -> Printed
-    ensures result_value { printed_read result ≡ printTreeAnswer store.now root.0 out.old }
-    ensures out_after { out.new ≡ printTreeAfter store.now root.0 out.old }
+    ensures result_value { printed_read result ≡ print_tree_answer store.now root.0 out.old }
+    ensures out_after { out.new ≡ print_tree_after store.now root.0 out.old }
 {
     let tree::Checked::Tree(_) = tree::check(store, root) else {
         return Printed::Refused(rules::FORM);
@@ -62,7 +62,7 @@ pub fn print_tree(store: &[u16], root: rules::Place, out: &mut [u8]) -> Printed
 }
 
 pub fn read(text: &[u8]) -> ReadMade
-    ensures { result ≡ read_from (readAnswer text.now) }
+    ensures { result ≡ read_from (read_answer text.now) }
 {
     if text.len() == 0 {
         return inner::reader::wrong(1);

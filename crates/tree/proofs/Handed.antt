@@ -13,7 +13,7 @@ use Rattle.lists.specs.Bools.{and_left, and_right}
 use Rattle.lists.specs.Lists.{same_refl as list_refl, same_true as list_true, same as same_list}
 use Rattle.lists.specs.Runs.{runs}
 use Rattle.rules.proofs.Stores.{fine-cells, fine-fit, read-encode}
-use Rattle.rules.specs.Answers.{checkAnswer}
+use Rattle.rules.specs.Answers.{check_answer}
 use Rattle.rules.specs.Bounds.{node_run}
 use Rattle.rules.specs.Refusals.{tree_in}
 use Rattle.rules.specs.Refuse.{FORM, done, refused}
@@ -96,22 +96,22 @@ tree_none xs root no-tree = go (tree_at xs root) refl
 
 -- ---- the answer
 
-pub check_some : (xs : List ℕ) (root : ℕ) (t : Tree) → tree_at xs root ≡ some t → checkAnswer xs root ≡ done (size t)
-unfolding checkAnswer
+pub check_some : (xs : List ℕ) (root : ℕ) (t : Tree) → tree_at xs root ≡ some t → check_answer xs root ≡ done (size t)
+unfolding check_answer
 check_some xs root t e = rw e
 
-pub check_none : (xs : List ℕ) (root : ℕ) → tree_at xs root ≡ none → checkAnswer xs root ≡ refused FORM
-unfolding checkAnswer
+pub check_none : (xs : List ℕ) (root : ℕ) → tree_at xs root ≡ none → check_answer xs root ≡ refused FORM
+unfolding check_answer
 check_none xs root e = rw e
 
-pub checked : (xs : List ℕ) (root n : ℕ) → checkAnswer xs root ≡ done n → tree_at xs root ≡ some (tree_in xs root)
+pub checked : (xs : List ℕ) (root n : ℕ) → check_answer xs root ≡ done n → tree_at xs root ≡ some (tree_in xs root)
 checked xs root n e = go (tree_at xs root) refl
   where
     go : (v : Option Tree) → tree_at xs root ≡ v → tree_at xs root ≡ some (tree_in xs root)
     go none q = let p = check_none xs root q in let z : ◌≡◌ {A = ℕ} 0 1 = cc in absurd (omega arith)
     go (some t) q = rw q
 
-pub unchecked : (xs : List ℕ) (root n : ℕ) → checkAnswer xs root ≡ refused n → tree_at xs root ≡ none
+pub unchecked : (xs : List ℕ) (root n : ℕ) → check_answer xs root ≡ refused n → tree_at xs root ≡ none
 unchecked xs root n e = go (tree_at xs root) refl
   where
     go : (v : Option Tree) → tree_at xs root ≡ v → tree_at xs root ≡ none
@@ -120,8 +120,8 @@ unchecked xs root n e = go (tree_at xs root) refl
 
 -- ---- what the answer of the check says
 
-pub tree_seen : (store : List ℕ) (root n : ℕ) (r : Checked) → check_read r ≡ checkAnswer store root → r ≡ Tree-is n → tree_at store root ≡ some (tree_in store root)
+pub tree_seen : (store : List ℕ) (root n : ℕ) (r : Checked) → check_read r ≡ check_answer store root → r ≡ Tree-is n → tree_at store root ≡ some (tree_in store root)
 tree_seen store root n r e q = checked store root n (sym e ∙ ap check_read q)
 
-pub tree_unseen : (store : List ℕ) (root n : ℕ) (r : Checked) → check_read r ≡ checkAnswer store root → r ≡ Refused n → is_none (tree_at store root) ≡ true
+pub tree_unseen : (store : List ℕ) (root n : ℕ) (r : Checked) → check_read r ≡ check_answer store root → r ≡ Refused n → is_none (tree_at store root) ≡ true
 tree_unseen store root n r e q = ap is_none (unchecked store root n (sym e ∙ ap check_read q))

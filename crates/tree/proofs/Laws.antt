@@ -34,9 +34,9 @@ pub cleared-run : (xs ys : List ℕ) → node_run ≤ length xs → ys ≡ repli
 cleared-run xs ys h e = ap (λ (l : List ℕ). l ++ drop node_run xs) (e ∙ ap (λ (n : ℕ). replicate n 0) (length-take-le node_run xs h))
 
 -- three stores make a branch of it
-pub branch_put : (xs ys : List ℕ) (t k : ℕ) → node_run ≤ length xs → ys ≡ replicate (length (take node_run xs)) 0
+pub branch-put : (xs ys : List ℕ) (t k : ℕ) → node_run ≤ length xs → ys ≡ replicate (length (take node_run xs)) 0
     → set (set (set (ys ++ drop node_run xs) 0 node_run) 1 t) 2 k ≡ run_of_node (cell t) k ++ drop node_run xs
-branch_put xs ys t k h e =
+branch-put xs ys t k h e =
     let n : number (cell t) ≡ t = omega arith in
     rw (cleared-run xs ys h e, n) refl
 

@@ -1,7 +1,7 @@
 // The node store: trees as runs of numbers, written, compared, cleared, and checked when handed in.
 // Nothing here knows matrices.
 ghost use Rattle.std.specs.Prelude.{◌≡◌};
-ghost use Rattle.rules.specs.Answers.{checkAnswer};
+ghost use Rattle.rules.specs.Answers.{check_answer};
 ghost use Rattle.tree.specs.Checked.{check_read};
 
 use rules::Place;
@@ -24,7 +24,7 @@ pub enum Checked {
 
 // Whether the entries up to the root are those of one well formed tree.
 pub fn check(store: &[u16], root: Place) -> Checked
-    ensures { check_read result ≡ checkAnswer store.now root.0 }
+    ensures { check_read result ≡ check_answer store.now root.0 }
 {
     let at = root.0;
     if inner::places(store.len()) <= at {

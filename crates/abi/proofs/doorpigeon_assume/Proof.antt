@@ -10,7 +10,7 @@ use Rattle.matrix.proofs.Views.{from-given}
 use Rattle.matrix.specs.Mat.{given, made_from}
 use Rattle.matrix.specs.declared.Made.{Made}
 use Rattle.matrix.specs.declared.Matrix.{Matrix}
-use Rattle.rules.specs.Answers.{assumeAnswer}
+use Rattle.rules.specs.Answers.{assume_answer}
 use Rattle.rules.specs.Codes.{trit_code}
 use Rattle.rules.specs.Refuse.{FORM}
 use Rattle.trits.specs.Codes.{cut-trit}
@@ -39,7 +39,7 @@ returns-2 c =
     let n = c.before.before.net.ensures in
     let b = c.before.trit.ensures ∙ cut-trit a.value h in
     rw (lt-ltb a.value 3 h)
-    (c.assume.ensures ∙ ap (λ (k : ℕ). made_from (assumeAnswer k (trit_code c.before.trit.result) (given a.matrix))) n ∙ ap (λ (k : ℕ). made_from (assumeAnswer (min a.target last) k (given a.matrix))) b)
+    (c.assume.ensures ∙ ap (λ (k : ℕ). made_from (assume_answer k (trit_code c.before.trit.result) (given a.matrix))) n ∙ ap (λ (k : ℕ). made_from (assume_answer (min a.target last) k (given a.matrix))) b)
 
 pub doorpigeon-assume-spec : {M : Type 1} → statement M
 doorpigeon-assume-spec =

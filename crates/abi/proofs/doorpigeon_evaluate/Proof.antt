@@ -2,7 +2,7 @@ use Prim.Native.Nat.{ℕ}
 use Rattle.abi.proofs.doorpigeon_evaluate.Statement.{statement}
 use Rattle.abi.proofs.doorpigeon_evaluate.Tie as tie
 use Rattle.abi.specs.Plain.{answered}
-use Rattle.rules.specs.Answers.{evaluateAnswer}
+use Rattle.rules.specs.Answers.{evaluate_answer}
 use borrow.Author.Rules.{rules}
 use mathlib.Core.Path.{◌∙◌, ap}
 
@@ -18,7 +18,7 @@ valued-requires c κs = search rules
 returns : tie.Need-returns
 returns c =
     let a = c.before.before.before.before.before.args in
-    c.valued.ensures ∙ ap answered (c.before.evaluate.ensures ∙ ap (λ (n : ℕ). evaluateAnswer a.count a.table.now a.trits.now n) c.before.before.net.ensures)
+    c.valued.ensures ∙ ap answered (c.before.evaluate.ensures ∙ ap (λ (n : ℕ). evaluate_answer a.count a.table.now a.trits.now n) c.before.before.net.ensures)
 
 pub doorpigeon-evaluate-spec : {M : Type 1} → statement M
 doorpigeon-evaluate-spec =

@@ -1,6 +1,6 @@
 // The lines of a text one after the other, up to the first that is wrong.
 ghost use Rattle.std.specs.Prelude.{drop, length, take, [], ◌≡◌, ◌<◌, ◌≤◌};
-ghost use Rattle.rules.specs.Answers.{readMade};
+ghost use Rattle.rules.specs.Answers.{read_made};
 ghost use Rattle.rules.specs.Bounds.{columns_max};
 ghost use Rattle.rules.specs.Read.{lines, read_rows, wrong as wrong_at};
 ghost use Rattle.text.specs.Calls.{read_from};
@@ -32,7 +32,7 @@ pub fn end(s: &[u8]) -> usize
 }
 
 pub fn wrong(line: usize) -> crate::ReadMade
-    ensures { result ≡ read_from (readMade (wrong_at line)) }
+    ensures { result ≡ read_from (read_made (wrong_at line)) }
 {
     crate::ReadMade {
         no: rules::LINE,
@@ -60,7 +60,7 @@ fn next(text: &[u8], at: usize, w: usize) -> Step
 pub fn body(text: &[u8], at: usize, head: rows::Nets) -> crate::ReadMade
     requires at_in_bounds { at ≤ length text.now }
     requires head_fits { HeadFits head }
-    ensures { result ≡ read_from (readMade (read_rows (take head.columns head.value) [] (lines (drop at text.now)))) }
+    ensures { result ≡ read_from (read_made (read_rows (take head.columns head.value) [] (lines (drop at text.now)))) }
 {
     let w = head.columns;
     let v = head.value;

@@ -9,7 +9,7 @@ use Rattle.matrix.proofs.TidySlots.{slots}
 use Rattle.matrix.proofs.Views.{clean_is, from-given}
 use Rattle.matrix.specs.declared.Matrix.{Matrix}
 use Rattle.matrix.specs.Mat.{given, matrix_from, view}
-use Rattle.rules.specs.Answers.{addAnswer}
+use Rattle.rules.specs.Answers.{add_answer}
 use Rattle.rules.specs.Matrix.{add}
 use Rattle.rules.specs.Refusals.{add_table}
 use Rattle.rules.specs.Refuse.{refusal}
@@ -20,7 +20,7 @@ pub add-no-requires : goal.add-no-requires
 add-no-requires c = ap (λ (s : Collected). s.many) c.collect-set.ensures
 
 pub returns-then-no-ne0 : goal.returns-then-no-ne0
-unfolding addAnswer
+unfolding add_answer
 returns-then-no-ne0 c =
     let a = c.args in
     let p = a.pattern.now in
@@ -53,7 +53,7 @@ push-self-requires c =
     ((clean_is _ (view m) s c.tidy-self.ensures).0, omega arith, add-row_clean m p rs z _ c.collect-set.ensures _ c.row-row.ensures)
 
 pub returns : goal.returns
-unfolding addAnswer
+unfolding add_answer
 returns c =
     let a = c.args in
     let m = a.self in

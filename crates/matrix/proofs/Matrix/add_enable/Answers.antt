@@ -11,7 +11,7 @@ use Rattle.matrix.proofs.TidySlots.{slots}
 use Rattle.matrix.proofs.Views.{from-given}
 use Rattle.matrix.specs.declared.Matrix.{Matrix}
 use Rattle.matrix.specs.Mat.{given, matrix_from, view}
-use Rattle.rules.specs.Answers.{enableAnswer}
+use Rattle.rules.specs.Answers.{enable_answer}
 use Rattle.rules.specs.Codes.{net_code}
 use Rattle.rules.specs.Matrix.{add_enable}
 use Rattle.rules.specs.Refusals.{enable_table}
@@ -19,7 +19,7 @@ use Rattle.rules.specs.Refuse.{refusal}
 use Rattle.matrix.proofs.Matrix.add_enable.Goals as goal
 
 pub returns-then-no-ne0 : goal.returns-then-no-ne0
-unfolding enableAnswer
+unfolding enable_answer
 returns-then-no-ne0 c =
     let a = c.args in
     let m = a.self in
@@ -43,7 +43,7 @@ add_enable-self-requires c =
     )
 
 pub returns : goal.returns
-unfolding enableAnswer
+unfolding enable_answer
 returns c =
     let a = c.args in
     let m = a.self in

@@ -7,7 +7,7 @@ use Rattle.matrix.proofs.Tidies.{tidied_clean}
 use Rattle.matrix.proofs.TidySlots.{slots}
 use Rattle.matrix.proofs.Views.{from-given}
 use Rattle.matrix.specs.Mat.{given, matrix_from, view}
-use Rattle.rules.specs.Answers.{assumeAnswer}
+use Rattle.rules.specs.Answers.{assume_answer}
 use Rattle.rules.specs.Codes.{net_code, trit_code}
 use Rattle.rules.specs.Matrix.{assume}
 use Rattle.rules.specs.Refusals.{assume_table}
@@ -15,7 +15,7 @@ use Rattle.rules.specs.Refuse.{refusal}
 use Rattle.matrix.proofs.Matrix.assume.Goals as goal
 
 pub returns-then-no-ne0 : goal.returns-then-no-ne0
-unfolding assumeAnswer
+unfolding assume_answer
 returns-then-no-ne0 c =
     let a = c.args in
     let m = a.self in
@@ -34,7 +34,7 @@ assume-self-requires c =
     (tidied_clean m _ (assume-fits m c.code-t.result (sym c.assume-no.ensures ∙ c.if-no-ne0.false)) (slots m _ c.well_formed.0) c.tidy-self.ensures).0
 
 pub returns : goal.returns
-unfolding assumeAnswer
+unfolding assume_answer
 returns c =
     let a = c.args in
     let m = a.self in

@@ -7,7 +7,7 @@ use Rattle.matrix.proofs.Tidies.{fits_sized, tidied_clean}
 use Rattle.matrix.proofs.TidySlots.{slots}
 use Rattle.matrix.proofs.Views.{from-given}
 use Rattle.matrix.specs.Mat.{given, matrix_from, view}
-use Rattle.rules.specs.Answers.{mergeAnswer}
+use Rattle.rules.specs.Answers.{merge_answer}
 use Rattle.rules.specs.Codes.{net_code}
 use Rattle.rules.specs.Given.{Sized}
 use Rattle.rules.specs.Matrix.{merge}
@@ -16,7 +16,7 @@ use Rattle.rules.specs.Refuse.{refusal}
 use Rattle.matrix.proofs.Matrix.merge.Goals as goal
 
 pub returns-then-no-ne0 : goal.returns-then-no-ne0
-unfolding mergeAnswer
+unfolding merge_answer
 returns-then-no-ne0 c =
     let a = c.args in
     let m = a.self in
@@ -50,7 +50,7 @@ merge-self-requires c =
     (p.0, q.0, subst Sized (sym x) h)
 
 pub returns : goal.returns
-unfolding mergeAnswer
+unfolding merge_answer
 returns c =
     let a = c.args in
     let m = a.self in

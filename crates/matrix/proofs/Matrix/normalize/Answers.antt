@@ -5,7 +5,7 @@ use Rattle.matrix.proofs.Tidies.{tidied_clean}
 use Rattle.matrix.proofs.TidySlots.{slots}
 use Rattle.matrix.proofs.Views.{from-given}
 use Rattle.matrix.specs.Mat.{given, matrix_from, view}
-use Rattle.rules.specs.Answers.{normalizeAnswer}
+use Rattle.rules.specs.Answers.{normalize_answer}
 use Rattle.rules.specs.Given.{matrix_table}
 use Rattle.rules.specs.Matrix.{Matrix as MatrixOf}
 use Rattle.rules.specs.Normalize.{normalize}
@@ -13,7 +13,7 @@ use Rattle.rules.specs.Refuse.{refusal}
 use Rattle.matrix.proofs.Matrix.normalize.Goals as goal
 
 pub returns-then-no-ne0 : goal.returns-then-no-ne0
-unfolding normalizeAnswer
+unfolding normalize_answer
 returns-then-no-ne0 c =
     let m = c.args.self in
     refuse _ (refusal (matrix_table (given m))) (given m) (normalize (view m)) _ c.check-no.ensures c.if-no-ne0.true (sym (from-given m))
@@ -27,7 +27,7 @@ normalize-self-requires c =
     (tidied_clean m _ (unrefused_fits m (sym c.check-no.ensures ∙ c.if-no-ne0.false)) (slots m _ c.well_formed.0) c.tidy-self.ensures).0
 
 pub returns : goal.returns
-unfolding normalizeAnswer
+unfolding normalize_answer
 returns c =
     let m = c.args.self in
     let v = (tidied_clean m _ (unrefused_fits m (sym c.check-no.ensures ∙ c.if-no-ne0.false)) (slots m _ c.well_formed.0) c.tidy-self.ensures).1 in

@@ -4,7 +4,7 @@ use borrow.Author.Rules.{rules}
 use lib.ListN.{length-set}
 use lib.Seq.{length_front, length-take-le}
 use Rattle.rules.specs.Bounds.{node_run}
-use Rattle.tree.proofs.Laws.{branch_put}
+use Rattle.tree.proofs.Laws.{branch-put}
 use Rattle.tree.proofs.inner.put_branch.Goals as goal
 
 pub slice_bounds-clear-end-2 : goal.slice_bounds-clear-end-2
@@ -21,4 +21,4 @@ bounds-store-2 c =
     simp length-set (omega (arith, l, c.requires.0))
 
 pub returns : goal.returns
-returns c = branch_put c.args.store.now c.clear.new.store c.args.test.0 c.args.one c.requires.0 c.clear.ensures
+returns c = branch-put c.args.store.now c.clear.new.store c.args.test.0 c.args.one c.requires.0 c.clear.ensures

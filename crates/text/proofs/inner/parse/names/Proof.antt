@@ -1,6 +1,6 @@
 use borrow.Author.Rules.{rules}
 use native.Mathlib.Omega.{arith}
-use Rattle.text.proofs.Values.{names_made, names_none}
+use Rattle.text.proofs.Values.{names-made, names_none}
 use Rattle.text.proofs.inner.parse.names.Statement.{statement}
 use Rattle.text.proofs.inner.parse.names.Tie as tie
 use Rattle.text.proofs.inner.parse.names.Reads as reads
@@ -31,7 +31,7 @@ scan-requires c κs = (c.before.before.before.before.requires, omega arith)
 
 -- src/inner/parse.rt:137:1
 returns-2 : tie.Need-returns-2
-returns-2 c = names_made c.before.before.before.before.before.before.args.line.now c.before.before.before.before.before.before.args.at c.before.scan.new.1.1.0 c.before.scan.result c.before.scan.ensures.0 c.before.scan.ensures.1
+returns-2 c = names-made c.before.before.before.before.before.before.args.line.now c.before.before.before.before.before.before.args.at c.before.scan.new.1.1.0 c.before.scan.result c.before.scan.ensures.0 c.before.scan.ensures.1
 
 pub names-spec : {M : Type 1} → statement M
 names-spec =

@@ -3,7 +3,7 @@ use lib.ListN.{replicate}
 use native.Mathlib.Omega.{arith}
 use Rattle.rules.specs.Bounds.{columns_max}
 use Rattle.text.proofs.Nets.{scan_few}
-use Rattle.text.proofs.Values.{nets_made}
+use Rattle.text.proofs.Values.{nets-made}
 use Rattle.text.proofs.inner.parse.nets.Statement.{statement}
 use Rattle.text.proofs.inner.parse.nets.Tie as tie
 use Rattle.text.proofs.inner.parse.nets.Reads as reads
@@ -25,7 +25,7 @@ flip-requires c κs = omega (arith, c.before.scan.ensures.1, scan_few columns_ma
 
 -- src/inner/parse.rt:48:1
 returns : tie.Need-returns
-returns c = nets_made c.before.before.before.before.before.args.line.now (replicate columns_max 0) c.before.before.scan.new.1.1.0 c.flip.result c.before.before.scan.result c.before.before.scan.ensures.0 c.before.before.scan.ensures.1 c.flip.ensures
+returns c = nets-made c.before.before.before.before.before.args.line.now (replicate columns_max 0) c.before.before.scan.new.1.1.0 c.flip.result c.before.before.scan.result c.before.before.scan.ensures.0 c.before.before.scan.ensures.1 c.flip.ensures
 
 pub nets-spec : {M : Type 1} → statement M
 nets-spec = tie.close (tie.spec slice-aggregate-scan scan-requires flip-requires returns)

@@ -2,7 +2,7 @@ use borrow.Author.Rules.{rules}
 use native.Mathlib.Omega.{arith}
 use Rattle.print.proofs.Laws.{put_then}
 use Rattle.rules.specs.Print.{indent}
-use Rattle.text.proofs.Lays.{indent_long, laid_put, laid_short, lay_long}
+use Rattle.text.proofs.Lays.{indent_long, laid-put, laid_short, lay_long}
 use Rattle.text.proofs.inner.trees.lay.Statement.{statement}
 use Rattle.text.proofs.inner.trees.lay.Tie as tie
 use Rattle.text.proofs.inner.trees.lay.Reads as reads
@@ -40,7 +40,7 @@ same_length c = search rules
 
 -- src/inner/trees.rt:38:1
 returns-2 : tie.Need-returns-2
-returns-2 c = laid_put (put_then (omega (arith, c.before.before.before.before.before.before.before.before.if1.false, indent_long c.before.before.before.before.before.before.before.before.before.before.before.args.level)) c.before.before.before.before.before.before.indent.ensures c.before.before.bytes.ensures)
+returns-2 c = laid-put (put_then (omega (arith, c.before.before.before.before.before.before.before.before.if1.false, indent_long c.before.before.before.before.before.before.before.before.before.before.before.args.level)) c.before.before.before.before.before.before.indent.ensures c.before.before.bytes.ensures)
 
 pub lay-spec : {M : Type 1} → statement M
 lay-spec =
