@@ -1,0 +1,16 @@
+use Prim.Native.Nat.{◌-◌, ◌≤◌}
+use borrow.Author.Rules.{rules}
+use lib.ListN.{length, take}
+use mathlib.Core.List.{reverse}
+use mathlib.Core.Path.{◌≡◌}
+use native.Mathlib.Omega.{arith}
+use Rattle.lists.specs.Vec.{vec, vec_none}
+use Rattle.rules.specs.Bounds.{columns_max}
+use Rattle.text.proofs.Values.{fill_end, fill_turn, flip_at, flip_long}
+use Rattle.text.proofs.inner.parse.flip.Given as goal
+
+abbrev pub invariant-loop-i : goal.invariant-loop-i
+invariant-loop-i l = (l.i ≤ l.n) × (l.out ≡ vec columns_max 0 (take l.i (reverse (take l.n l.v))))
+
+abbrev pub decreases-loop-i : goal.decreases-loop-i
+decreases-loop-i l = l.n - l.i

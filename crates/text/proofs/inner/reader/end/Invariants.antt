@@ -1,0 +1,14 @@
+use Prim.Native.Nat.{◌-◌, ◌≤◌}
+use lib.ListN.{length, take}
+use mathlib.Core.Bool.{true}
+use mathlib.Core.Path.{◌≡◌, refl}
+use native.Mathlib.Omega.{arith}
+use Rattle.lists.specs.Lists.{all}
+use Rattle.text.proofs.Reader.{cut_end, cut-lf, solid, solid_more}
+use Rattle.text.proofs.inner.reader.end.Given as goal
+
+abbrev pub invariant-loop-i : goal.invariant-loop-i
+invariant-loop-i l = (l.i ≤ length l.s) × (all solid (take l.i l.s) ≡ true)
+
+abbrev pub decreases-loop-i : goal.decreases-loop-i
+decreases-loop-i l = length l.s - l.i
