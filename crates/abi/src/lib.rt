@@ -1,5 +1,7 @@
-// The public calls as functions of C, for C and Rust to link: a static library.
+// The public calls in what C can pass: codes in place of enums. The static library abi_c exports them.
 // Nothing is computed here: each function is one public call, its enums told as numbers.
+#![tactic(auto)]
+
 ghost use Rattle.std.specs.Prelude.{◌≡◌, min};
 ghost use Rattle.abi.specs.Plain.{answered, assumed, dispatched, last};
 ghost use Rattle.dispatch.specs.Good.{built_read};
@@ -108,15 +110,13 @@ fn valued(told: evaluate::Value) -> Answered
     }
 }
 
-#[unsafe(no_mangle)]
-pub extern "C" fn doorpigeon_new(nets: &[u16]) -> matrix::Made
+pub fn doorpigeon_new(nets: &[u16]) -> matrix::Made
     ensures { result ≡ made_from (new_answer nets.now) }
 {
     matrix::Matrix::new(nets)
 }
 
-#[unsafe(no_mangle)]
-pub extern "C" fn doorpigeon_add(
+pub fn doorpigeon_add(
     matrix: matrix::Matrix,
     pattern: &[u8],
     rules: &[u16],
@@ -127,8 +127,7 @@ pub extern "C" fn doorpigeon_add(
 }
 
 // A value that codes no trit is refused 12, as a number in use that codes nothing is.
-#[unsafe(no_mangle)]
-pub extern "C" fn doorpigeon_assume(matrix: matrix::Matrix, target: u32, value: u8) -> matrix::Made
+pub fn doorpigeon_assume(matrix: matrix::Matrix, target: u32, value: u8) -> matrix::Made
     ensures { result ≡ made_from (assumed (min target last) value (given matrix)) }
 {
     if value > rules::UNDEF {
@@ -140,29 +139,25 @@ pub extern "C" fn doorpigeon_assume(matrix: matrix::Matrix, target: u32, value: 
     matrix.assume(net(target), trits::inner::trit(value))
 }
 
-#[unsafe(no_mangle)]
-pub extern "C" fn doorpigeon_outputs(matrix: matrix::Matrix) -> matrix::Outputs
+pub fn doorpigeon_outputs(matrix: matrix::Matrix) -> matrix::Outputs
     ensures { result ≡ outputs_from (outputs_answer (given matrix)) }
 {
     matrix.outputs()
 }
 
-#[unsafe(no_mangle)]
-pub extern "C" fn doorpigeon_normalize(matrix: matrix::Matrix) -> matrix::Made
+pub fn doorpigeon_normalize(matrix: matrix::Matrix) -> matrix::Made
     ensures { result ≡ made_from (normalize_answer (given matrix)) }
 {
     matrix.normalize()
 }
 
-#[unsafe(no_mangle)]
-pub extern "C" fn doorpigeon_add_enable(matrix: matrix::Matrix, enable: u32) -> matrix::Made
+pub fn doorpigeon_add_enable(matrix: matrix::Matrix, enable: u32) -> matrix::Made
     ensures { result ≡ made_from (enable_answer (min enable last) (given matrix)) }
 {
     matrix.add_enable(net(enable))
 }
 
-#[unsafe(no_mangle)]
-pub extern "C" fn doorpigeon_merge(
+pub fn doorpigeon_merge(
     matrix: matrix::Matrix,
     at: u32,
     child: matrix::Matrix,
@@ -172,8 +167,7 @@ pub extern "C" fn doorpigeon_merge(
     matrix.merge(net(at), child)
 }
 
-#[unsafe(no_mangle)]
-pub extern "C" fn doorpigeon_dispatch(
+pub fn doorpigeon_dispatch(
     matrix: matrix::Matrix,
     enable: u32,
     store: &mut [u16],
@@ -183,15 +177,13 @@ pub extern "C" fn doorpigeon_dispatch(
     told(dispatch::dispatch(matrix, net(enable), store))
 }
 
-#[unsafe(no_mangle)]
-pub extern "C" fn doorpigeon_check(store: &[u16], root: usize) -> Answered
+pub fn doorpigeon_check(store: &[u16], root: usize) -> Answered
     ensures { result ≡ answered (check_answer store.now root) }
 {
     checked(tree::check(store, rules::Place(root)))
 }
 
-#[unsafe(no_mangle)]
-pub extern "C" fn doorpigeon_one_hot(
+pub fn doorpigeon_one_hot(
     store: &[u16],
     root: usize,
     outputs: &[u16],
@@ -203,8 +195,7 @@ pub extern "C" fn doorpigeon_one_hot(
     emit::one_hot(store, rules::Place(root), outputs, count, table)
 }
 
-#[unsafe(no_mangle)]
-pub extern "C" fn doorpigeon_disjoint(
+pub fn doorpigeon_disjoint(
     store: &[u16],
     root: usize,
     nets: &[u16],
@@ -228,8 +219,7 @@ pub extern "C" fn doorpigeon_disjoint(
     )
 }
 
-#[unsafe(no_mangle)]
-pub extern "C" fn doorpigeon_prefix(
+pub fn doorpigeon_prefix(
     store: &[u16],
     root: usize,
     outputs: &[u16],
@@ -240,8 +230,7 @@ pub extern "C" fn doorpigeon_prefix(
     together(emit::prefix(store, rules::Place(root), outputs, enables))
 }
 
-#[unsafe(no_mangle)]
-pub extern "C" fn doorpigeon_evaluate(
+pub fn doorpigeon_evaluate(
     table: &[u16],
     count: usize,
     trits: &[u8],
@@ -252,22 +241,19 @@ pub extern "C" fn doorpigeon_evaluate(
     valued(evaluate::evaluate(table, count, trits, net(asked)))
 }
 
-#[unsafe(no_mangle)]
-pub extern "C" fn doorpigeon_print(matrix: matrix::Matrix, out: &mut [u8]) -> Answered
+pub fn doorpigeon_print(matrix: matrix::Matrix, out: &mut [u8]) -> Answered
     ensures { (result ≡ answered (print_answer (given matrix) out.old)) × (out.new ≡ print_after (given matrix) out.old) }
 {
     printed(text::print(matrix, out))
 }
 
-#[unsafe(no_mangle)]
-pub extern "C" fn doorpigeon_print_tree(store: &[u16], root: usize, out: &mut [u8]) -> Answered
+pub fn doorpigeon_print_tree(store: &[u16], root: usize, out: &mut [u8]) -> Answered
     ensures { (result ≡ answered (print_tree_answer store.now root out.old)) × (out.new ≡ print_tree_after store.now root out.old) }
 {
     printed(text::print_tree(store, rules::Place(root), out))
 }
 
-#[unsafe(no_mangle)]
-pub extern "C" fn doorpigeon_read(text: &[u8]) -> text::ReadMade
+pub fn doorpigeon_read(text: &[u8]) -> text::ReadMade
     ensures { result ≡ read_from (read_answer text.now) }
 {
     text::read(text)

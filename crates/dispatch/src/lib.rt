@@ -1,5 +1,7 @@
 // Dispatch: a matrix and its enable become a tree in a lent store, or a number.
 // The matrix is checked once, at the door; the recursion below it checks nothing again.
+#![tactic(auto)]
+
 ghost use Rattle.std.specs.Prelude.{eqb, get_or, length, cond, false, ◌≡◌, ℕ, ◌*◌, ◌+◌, ◌<◌, ◌≤◌, min};
 ghost use Rattle.dispatch.specs.Choice.{least, upto};
 ghost use Rattle.dispatch.specs.Good.{Good, built_read};

@@ -1,4 +1,6 @@
 // The program: a printed matrix in, and what is asked of it out. All that matters is in the libraries.
+#![tactic(auto)]
+
 ghost use Rattle.std.specs.Prelude.{◌≤◌};
 
 use args::Asked;

@@ -1,5 +1,7 @@
 // Settings 1 to 9 of 01 on the code, the edges of stores, tables, updates and prefixes, and trees handed in, run and written out.
 // The lines of `stdout` are 01's own words and numbers, or arithmetic on them; docs/EDGES.md says which.
+#![tactic(auto)]
+
 mod ahead;
 mod apart;
 mod chain;

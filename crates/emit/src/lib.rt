@@ -1,5 +1,7 @@
 // Emission: a tree as muxes appended to a table, one-hot or disjoint, and the disjoint prefix.
 // It evaluates nothing and simplifies nothing.
+#![tactic(auto)]
+
 ghost use Rattle.std.specs.Prelude.{length, ◌≡◌};
 ghost use Rattle.emit.specs.Calls.{CanPlace, between, emitted_from, placed, placed_after, prefix_read, update_in, update_wide};
 ghost use Rattle.lists.specs.Lists.{all};

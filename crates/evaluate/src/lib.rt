@@ -1,5 +1,7 @@
 // The evaluator: a mux table's entries in order over given trits, and the trit of one net.
 // It adds no entry; only the check of a table handed in, in `inner`, is shared.
+#![tactic(auto)]
+
 ghost use Rattle.std.specs.Prelude.{◌+◌, ◌≤◌, min, leb, drop, get_or, length, take, false, not, true, [], ◌++◌, ◌≡◌};
 ghost use Rattle.evaluate.specs.Values.{reads, value_read};
 ghost use Rattle.lists.specs.Lists.{all};

@@ -1,5 +1,7 @@
 // The matrix: nets for its columns and rows in order, each with a count; the check of one handed in, and every operation on it.
 // An operation takes the matrix by value and hands it back, the refusal beside it.
+#![tactic(auto)]
+
 ghost use Rattle.std.specs.Prelude.{◌≡◌};
 ghost use Rattle.matrix.specs.Mat.{given, made_from};
 ghost use Rattle.matrix.specs.Outs.{outputs_from};

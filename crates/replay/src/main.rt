@@ -1,5 +1,7 @@
 // The cases of differential/answers.txt, asked of our public calls, and held against the answers of the original.
 // A file that is missing, cut or not as described is a difference.
+#![tactic(auto)]
+
 mod ask;
 mod cases;
 mod emission;

@@ -1,5 +1,7 @@
 // A row: a pattern of trit codes and a rule set, each with its own count; and the loops of normalize over one row.
 // Nothing here knows the matrix.
+#![tactic(auto)]
+
 #[repr(C)]
 #[derive(Clone, Copy)]
 pub struct Row {

@@ -1,5 +1,7 @@
 // Document 01 as definitions: `specs/` has a file a section, `proofs/` the laws of the definitions alone.
 // Here are only the types of trits, nets and places, the bounds and the numbers; no operation on them.
+#![tactic(auto)]
+
 mod bounds;
 
 #[derive(Clone, Copy)]

@@ -1,5 +1,7 @@
 // Rule sets: net codes, ascending, with a count; and the insertion that every set of the product is made by.
 // Nothing here knows rows or matrices.
+#![tactic(auto)]
+
 #[repr(C)]
 #[derive(Clone, Copy)]
 pub struct Rules {

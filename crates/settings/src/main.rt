@@ -1,5 +1,7 @@
 // Settings of 01, and the last accepted and first refused input of every number that a call on matrices or texts gives.
 // The lines of `stdout` are 01's own words and numbers; docs/SETTINGS.md says which sentence or sum each is from.
+#![tactic(auto)]
+
 mod adds;
 mod bench;
 mod calls;

@@ -1,5 +1,7 @@
 // A matrix and a tree as text, and the reader of a printed matrix.
 // Nothing here changes a matrix or a tree, and no byte is written before it is known that all fit.
+#![tactic(auto)]
+
 ghost use Rattle.std.specs.Prelude.{◌≡◌};
 ghost use Rattle.matrix.specs.Mat.{given};
 ghost use Rattle.rules.specs.Answers.{print_after, print_answer, print_tree_after, print_tree_answer, read_answer};

@@ -1,5 +1,7 @@
 // The node store: trees as runs of numbers, written, compared, cleared, and checked when handed in.
 // Nothing here knows matrices.
+#![tactic(auto)]
+
 ghost use Rattle.std.specs.Prelude.{◌≡◌};
 ghost use Rattle.rules.specs.Answers.{check_answer};
 ghost use Rattle.tree.specs.Checked.{check_read};

@@ -1,5 +1,7 @@
 // Trits and nets: what a number codes, the code of each, and the mux as a table of 27 trits.
 // The types are those of `rules`; nothing here knows rows or matrices.
+#![tactic(auto)]
+
 ghost use Rattle.std.specs.Prelude.{◌<◌, get_or, length, ◌≡◌};
 ghost use Rattle.rules.specs.Codes.{code_answer, net_answer, trit_answer, trit_code};
 ghost use Rattle.rules.specs.Trits.{mux as mux_of};

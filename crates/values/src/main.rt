@@ -1,5 +1,7 @@
 // The edges of the codes, setting 9's values on the code, and the edges of the evaluator, run and written out.
 // The lines of `stdout` are 01's own words and numbers; docs/EDGES.md says which.
+#![tactic(auto)]
+
 mod arms;
 mod ask;
 mod cells;
