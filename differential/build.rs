@@ -27,7 +27,7 @@ fn main() {
     }
 }
 
-/// The port's static library stands where `rt staticlib abi` writes it.
+/// The port's static library stands where the script `staticlib` writes it.
 fn link_port() {
     let folder = root().join("target/staticlib");
     println!("cargo:rerun-if-changed={}", folder.join("libabi.a").display());

@@ -1,4 +1,4 @@
-/* Doorpigeon for C: priority match matrices lowered to mux trees. Link libabi.a, which `rt staticlib abi` writes. It is
+/* Doorpigeon for C: priority match matrices lowered to mux trees. Link libabi.a, which the script `staticlib` writes. It is
  * built for Linux on x86-64, with the calling convention of C there (System V).
  *
  * Every function may be given anything: whatever it is handed, it ends, reads and writes only what it was lent, and

@@ -1,5 +1,5 @@
 //! Doorpigeon for Rust: what `doorpigeon.h` declares, which says what each function does. Needs Rust 1.82 or newer.
-//! Name this file in a module's `path` attribute, and link libabi.a, which `rt staticlib abi` writes.
+//! Name this file in a module's `path` attribute, and link libabi.a, which the script `staticlib` writes.
 
 // Nobody needs all of it.
 #![allow(dead_code)]

@@ -116,11 +116,7 @@ pub fn doorpigeon_new(nets: &[u16]) -> matrix::Made
     matrix::Matrix::new(nets)
 }
 
-pub fn doorpigeon_add(
-    matrix: matrix::Matrix,
-    pattern: &[u8],
-    rules: &[u16],
-) -> matrix::Made
+pub fn doorpigeon_add(matrix: matrix::Matrix, pattern: &[u8], rules: &[u16]) -> matrix::Made
     ensures { result ≡ made_from (add_answer pattern.now rules.now (given matrix)) }
 {
     matrix.add(pattern, rules)
@@ -157,21 +153,13 @@ pub fn doorpigeon_add_enable(matrix: matrix::Matrix, enable: u32) -> matrix::Mad
     matrix.add_enable(net(enable))
 }
 
-pub fn doorpigeon_merge(
-    matrix: matrix::Matrix,
-    at: u32,
-    child: matrix::Matrix,
-) -> matrix::Made
+pub fn doorpigeon_merge(matrix: matrix::Matrix, at: u32, child: matrix::Matrix) -> matrix::Made
     ensures { result ≡ made_from (merge_answer (min at last) (given matrix) (given child)) }
 {
     matrix.merge(net(at), child)
 }
 
-pub fn doorpigeon_dispatch(
-    matrix: matrix::Matrix,
-    enable: u32,
-    store: &mut [u16],
-) -> Dispatched
+pub fn doorpigeon_dispatch(matrix: matrix::Matrix, enable: u32, store: &mut [u16]) -> Dispatched
     ensures { (result ≡ dispatched (dispatch_answer (min enable last) (given matrix) store.old)) × (store.new ≡ dispatch_store (min enable last) (given matrix) store.old) }
 {
     told(dispatch::dispatch(matrix, net(enable), store))
@@ -219,23 +207,13 @@ pub fn doorpigeon_disjoint(
     )
 }
 
-pub fn doorpigeon_prefix(
-    store: &[u16],
-    root: usize,
-    outputs: &[u16],
-    enables: &[u16],
-) -> Answered
+pub fn doorpigeon_prefix(store: &[u16], root: usize, outputs: &[u16], enables: &[u16]) -> Answered
     ensures { result ≡ answered (prefix_answer store.now root outputs.now enables.now) }
 {
     together(emit::prefix(store, rules::Place(root), outputs, enables))
 }
 
-pub fn doorpigeon_evaluate(
-    table: &[u16],
-    count: usize,
-    trits: &[u8],
-    asked: u32,
-) -> Answered
+pub fn doorpigeon_evaluate(table: &[u16], count: usize, trits: &[u8], asked: u32) -> Answered
     ensures { result ≡ answered (evaluate_answer count table.now trits.now (min asked last)) }
 {
     valued(evaluate::evaluate(table, count, trits, net(asked)))

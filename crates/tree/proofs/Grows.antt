@@ -11,7 +11,7 @@ use Rattle.rules.proofs.Trees.{reduce-fit, reduce-peak, size_pos}
 use Rattle.rules.specs.Bounds.{node_run, rules_max}
 use Rattle.rules.specs.Refuse.{NODES}
 use Rattle.rules.specs.Store.{encode, leaf_run}
-use Rattle.rules.specs.Tree.{Fit, Tree, fine, leaf, mk, node, peak, reduce, same, size}
+use Rattle.rules.specs.Tree.{Fit, Tree, leaf, mk, node, peak, reduce, same, size}
 use Rattle.rules.specs.declared.Place.{Place}
 use Rattle.tree.proofs.Laws.{rest}
 use Rattle.tree.specs.Grown.{Arms, Grown, Outcome, built, short}

@@ -1,7 +1,6 @@
 use Rattle.abi.specs.Plain.{answered}
 use Rattle.tree.specs.Checked.{check_read}
 use Rattle.tree.specs.declared.Checked.{Checked}
-use borrow.Author.Rules.{rules}
 use mathlib.Core.Path.{◌∙◌, ap, sym}
 use Rattle.abi.proofs.checked.Goals as goal
 

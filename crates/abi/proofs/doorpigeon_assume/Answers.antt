@@ -1,5 +1,4 @@
 use Prim.Native.Nat.{ℕ, ◌<◌, min}
-use borrow.Author.Rules.{rules}
 use borrow.Author.Tests.{le-ltb, lt-ltb}
 use mathlib.Core.Path.{◌∙◌, ap, sym}
 use native.Mathlib.Omega.{arith}

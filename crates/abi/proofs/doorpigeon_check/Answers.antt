@@ -1,5 +1,4 @@
 use Rattle.abi.specs.Plain.{answered}
-use borrow.Author.Rules.{rules}
 use mathlib.Core.Path.{◌∙◌, ap}
 use Rattle.abi.proofs.doorpigeon_check.Goals as goal
 

@@ -1,7 +1,6 @@
 use Prim.Native.Nat.{ℕ}
 use Rattle.abi.specs.Plain.{answered}
 use Rattle.rules.specs.Answers.{evaluate_answer}
-use borrow.Author.Rules.{rules}
 use mathlib.Core.Path.{◌∙◌, ap}
 use Rattle.abi.proofs.doorpigeon_evaluate.Goals as goal
 

@@ -1,7 +1,6 @@
 use Rattle.abi.specs.Plain.{answered}
 use Rattle.text.specs.Calls.{printed_read}
 use Rattle.text.specs.declared.Printed.{Printed}
-use borrow.Author.Rules.{rules}
 use mathlib.Core.Path.{◌∙◌, ap, sym}
 use Rattle.abi.proofs.printed.Goals as goal
 

@@ -1,7 +1,6 @@
 use Rattle.abi.specs.Plain.{answered}
 use Rattle.emit.specs.Calls.{prefix_read}
 use Rattle.emit.specs.declared.Together.{Together}
-use borrow.Author.Rules.{rules}
 use mathlib.Core.Path.{◌∙◌, ap, sym}
 use Rattle.abi.proofs.together.Goals as goal
 

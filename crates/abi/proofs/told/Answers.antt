@@ -1,4 +1,3 @@
-use borrow.Author.Rules.{rules}
 use mathlib.Core.Path.{ap, sym}
 use Rattle.abi.specs.Plain.{dispatched}
 use Rattle.dispatch.specs.Good.{built_read}

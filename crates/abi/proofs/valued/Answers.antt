@@ -3,7 +3,6 @@ use Rattle.abi.specs.Plain.{answered}
 use Rattle.evaluate.specs.Values.{value_read}
 use Rattle.evaluate.specs.declared.Value.{Value}
 use Rattle.rules.specs.Refuse.{done}
-use borrow.Author.Rules.{rules}
 use mathlib.Core.Path.{◌∙◌, ap, sym}
 use Rattle.abi.proofs.valued.Goals as goal
 

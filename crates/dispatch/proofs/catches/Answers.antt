@@ -1,4 +1,3 @@
-use borrow.Author.Rules.{rules}
 use Rattle.dispatch.proofs.Lasts.{catches_last, catches_none}
 use Rattle.matrix.proofs.TidySlots.{slots}
 use Rattle.dispatch.proofs.catches.Goals as goal

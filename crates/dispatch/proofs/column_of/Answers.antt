@@ -1,8 +1,7 @@
-use borrow.Author.Rules.{rules}
 use lib.ListN.{drop, length}
 use mathlib.Core.Path.{◌∙◌, ◌≡◌, ap}
 use native.Mathlib.Omega.{arith}
-use Prim.Native.Nat.{◌-◌, ◌≤◌, ℕ}
+use Prim.Native.Nat.{◌-◌, ℕ}
 use Rattle.dispatch.proofs.Choices.{column_is, count_below, count_start, count_turn}
 use Rattle.dispatch.specs.Choice.{upto}
 use Rattle.lists.specs.Vec.{vec}

@@ -1,12 +1,8 @@
-use borrow.Author.Rules.{rules}
-use lib.ListN.{drop, length}
-use mathlib.Core.Path.{◌∙◌, ◌≡◌, ap}
-use native.Mathlib.Omega.{arith}
-use Prim.Native.Nat.{◌-◌, ◌≤◌, ℕ}
-use Rattle.dispatch.proofs.Choices.{column_is, count_below, count_start, count_turn}
+use lib.ListN.{drop}
+use mathlib.Core.Path.{◌≡◌}
+use Prim.Native.Nat.{◌≤◌}
 use Rattle.dispatch.specs.Choice.{upto}
 use Rattle.lists.specs.Vec.{vec}
-use Rattle.matrix.proofs.StepHeld.{clean_held, clean_tall, clean_wide, row_pattern, row_wide}
 use Rattle.matrix.specs.Mat.{view}
 use Rattle.rules.specs.Bounds.{columns_max, rows_max}
 use Rattle.rules.specs.Dispatch.{count_x}

@@ -1,10 +1,8 @@
-use borrow.Author.Rules.{rules}
 use mathlib.Core.Path.{◌∙◌, ◌≡◌, ap, sym}
 use native.Mathlib.Omega.{arith}
-use Prim.Native.Nat.{◌-◌, ◌<◌, ◌≤◌, ℕ}
+use Prim.Native.Nat.{◌-◌, ℕ}
 use Rattle.dispatch.proofs.Choices.{least_end, least-keep, least_more}
 use Rattle.dispatch.specs.Choice.{least}
-use Rattle.rules.specs.Bounds.{columns_max}
 use Rattle.dispatch.proofs.fewest.Goals as goal
 
 pub loop-i-init : goal.loop-i-init

@@ -1,8 +1,5 @@
-use borrow.Author.Rules.{rules}
-use mathlib.Core.Path.{◌∙◌, ◌≡◌, ap, sym}
-use native.Mathlib.Omega.{arith}
-use Prim.Native.Nat.{◌-◌, ◌<◌, ◌≤◌, ℕ}
-use Rattle.dispatch.proofs.Choices.{least_end, least-keep, least_more}
+use mathlib.Core.Path.{◌≡◌}
+use Prim.Native.Nat.{◌-◌, ◌<◌, ◌≤◌}
 use Rattle.dispatch.specs.Choice.{least}
 use Rattle.rules.specs.Bounds.{columns_max}
 use Rattle.dispatch.proofs.fewest.Given as goal

@@ -2,7 +2,7 @@ use borrow.Author.Rules.{rules}
 use lib.ListN.{get_or}
 use mathlib.Core.Path.{◌∙◌, ◌≡◌, ap, refl}
 use native.Mathlib.Omega.{arith}
-use Prim.Native.Nat.{◌+◌, ◌-◌, ◌≤◌, ℕ}
+use Prim.Native.Nat.{◌+◌, ℕ}
 use Rattle.dispatch.proofs.Choices.{upto_turn}
 use Rattle.dispatch.specs.Choice.{upto}
 use Rattle.lists.specs.Vec.{vec}

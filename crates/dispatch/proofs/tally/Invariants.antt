@@ -1,9 +1,6 @@
-use borrow.Author.Rules.{rules}
 use lib.ListN.{get_or}
-use mathlib.Core.Path.{◌∙◌, ◌≡◌, ap, refl}
-use native.Mathlib.Omega.{arith}
+use mathlib.Core.Path.{◌≡◌}
 use Prim.Native.Nat.{◌+◌, ◌-◌, ◌≤◌, ℕ}
-use Rattle.dispatch.proofs.Choices.{upto_turn}
 use Rattle.dispatch.specs.Choice.{upto}
 use Rattle.lists.specs.Vec.{vec}
 use Rattle.rules.specs.Bounds.{columns_max}

@@ -1,4 +1,3 @@
-use borrow.Author.Rules.{rules}
 use lib.ListN.{get_or}
 use mathlib.Core.Path.{◌≡◌, refl}
 use native.Mathlib.Omega.{arith}

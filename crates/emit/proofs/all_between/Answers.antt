@@ -1,10 +1,7 @@
-use Prim.Native.Nat.{◌-◌}
-use borrow.Author.Rules.{rules}
 use borrow.Author.Tests.{not-false, not-true}
-use lib.ListN.{drop, length}
-use mathlib.Core.Path.{◌≡◌, refl, sym, ◌∙◌}
+use mathlib.Core.Path.{refl, sym, ◌∙◌}
 use Rattle.emit.specs.Calls.{between}
-use Rattle.lists.specs.Lists.{all, rest-done, rest_more, rest_stop}
+use Rattle.lists.specs.Lists.{rest-done, rest_more, rest_stop}
 use Rattle.std.proofs.Common.{ap}
 use Rattle.std.proofs.Common.{not}
 use Rattle.emit.proofs.all_between.Goals as goal

@@ -1,15 +1,10 @@
 use Prim.Native.Nat.{◌≤◌, ◌-◌}
-use borrow.Author.Rules.{rules}
-use borrow.Author.Tests.{not-false, not-true}
 use lib.ListN.{length}
-use mathlib.Core.Path.{◌≡◌, refl, sym, ◌∙◌}
-use native.Mathlib.Omega.{arith}
-use Rattle.emit.proofs.Updates.{bits_out, both_in, net_out, rest, rest_none}
+use mathlib.Core.Path.{◌≡◌}
+use Rattle.emit.proofs.Updates.{rest}
 use Rattle.emit.specs.Calls.{update_in}
 use Rattle.lists.specs.Lists.{all}
 use Rattle.rules.specs.Emit.{updates_of}
-use Rattle.std.proofs.Common.{ap}
-use Rattle.std.proofs.Common.{not}
 use Rattle.emit.proofs.updates_between.Given as goal
 
 abbrev pub invariant-loop-i : goal.invariant-loop-i

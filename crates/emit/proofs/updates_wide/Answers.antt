@@ -1,12 +1,7 @@
-use Prim.Native.Nat.{◌≤◌, ◌-◌}
-use borrow.Author.Rules.{rules}
-use lib.ListN.{length}
-use mathlib.Core.Path.{◌≡◌, refl, sym, ◌∙◌}
+use mathlib.Core.Path.{refl, sym, ◌∙◌}
 use native.Mathlib.Omega.{arith}
-use Rattle.emit.proofs.Updates.{rest, rest_none, width_other, width_same}
+use Rattle.emit.proofs.Updates.{rest_none, width_other, width_same}
 use Rattle.emit.specs.Calls.{update_wide}
-use Rattle.lists.specs.Lists.{all}
-use Rattle.rules.specs.Emit.{updates_of}
 use Rattle.emit.proofs.updates_wide.Goals as goal
 
 pub loop-i-init : goal.loop-i-init

@@ -1,9 +1,6 @@
-use Prim.Native.Nat.{◌≤◌, ◌-◌, min}
-use borrow.Author.Rules.{rules}
 use borrow.Author.Tests.{le-ltb, lt-ltb}
-use lib.ListN.{get_or, length, take}
-use lib.Seq.{slice}
-use mathlib.Core.Path.{◌≡◌, sym, ◌∙◌, ap}
+use lib.ListN.{get_or}
+use mathlib.Core.Path.{sym, ◌∙◌, ap}
 use native.Mathlib.Omega.{arith}
 use Rattle.evaluate.proofs.Turns.{take_min}
 use Rattle.lists.specs.Lists.{all, all_done, all_more, all_stop}

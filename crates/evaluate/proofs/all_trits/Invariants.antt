@@ -1,12 +1,8 @@
 use Prim.Native.Nat.{◌≤◌, ◌-◌, min}
-use borrow.Author.Rules.{rules}
-use borrow.Author.Tests.{le-ltb, lt-ltb}
-use lib.ListN.{get_or, length, take}
+use lib.ListN.{length, take}
 use lib.Seq.{slice}
-use mathlib.Core.Path.{◌≡◌, sym, ◌∙◌, ap}
-use native.Mathlib.Omega.{arith}
-use Rattle.evaluate.proofs.Turns.{take_min}
-use Rattle.lists.specs.Lists.{all, all_done, all_more, all_stop}
+use mathlib.Core.Path.{◌≡◌}
+use Rattle.lists.specs.Lists.{all}
 use Rattle.rules.specs.Bounds.{mux_first}
 use Rattle.rules.specs.Trits.{is_trit}
 use Rattle.evaluate.proofs.all_trits.Given as goal

@@ -1,4 +1,3 @@
-use borrow.Author.Rules.{rules}
 use mathlib.Core.Path.{sym, ◌∙◌}
 use Rattle.evaluate.proofs.Turns.{cell-given, cell_driven}
 use Rattle.evaluate.proofs.cell_of.Goals as goal

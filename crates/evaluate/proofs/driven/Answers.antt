@@ -1,5 +1,4 @@
 use Prim.Native.Nat.{◌+◌, ℕ}
-use borrow.Author.Rules.{rules}
 use lib.Dec.{leb}
 use mathlib.Core.Bool.{not}
 use mathlib.Core.Path.{ap, ◌∙◌}

@@ -1,4 +1,3 @@
-use borrow.Author.Rules.{rules}
 use mathlib.Core.Path.{sym, ◌∙◌, ap}
 use Rattle.evaluate.proofs.Turns.{const_read}
 use Rattle.evaluate.specs.Values.{reads as Reads-of}

@@ -1,11 +1,8 @@
-use Prim.Native.Nat.{◌≤◌, ◌<◌, ◌-◌}
-use borrow.Author.Rules.{rules}
+use Prim.Native.Nat.{◌<◌}
 use lib.ListN.{length, length-set}
-use mathlib.Core.Path.{◌≡◌, refl, ◌∙◌}
+use mathlib.Core.Path.{refl, ◌∙◌}
 use native.Mathlib.Omega.{arith}
-use Rattle.evaluate.proofs.Turns.{Running, runs_end, runs_start, runs_turn, table-room}
-use Rattle.rules.specs.Bounds.{mux_max}
-use Rattle.rules.specs.Emit.{room}
+use Rattle.evaluate.proofs.Turns.{runs_end, runs_start, runs_turn, table-room}
 use Rattle.evaluate.proofs.run_all.Goals as goal
 
 pub loop-k-init : goal.loop-k-init

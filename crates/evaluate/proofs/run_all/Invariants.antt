@@ -1,9 +1,7 @@
-use Prim.Native.Nat.{◌≤◌, ◌<◌, ◌-◌}
-use borrow.Author.Rules.{rules}
-use lib.ListN.{length, length-set}
-use mathlib.Core.Path.{◌≡◌, refl, ◌∙◌}
-use native.Mathlib.Omega.{arith}
-use Rattle.evaluate.proofs.Turns.{Running, runs_end, runs_start, runs_turn, table-room}
+use Prim.Native.Nat.{◌≤◌, ◌-◌}
+use lib.ListN.{length}
+use mathlib.Core.Path.{◌≡◌}
+use Rattle.evaluate.proofs.Turns.{Running}
 use Rattle.rules.specs.Bounds.{mux_max}
 use Rattle.rules.specs.Emit.{room}
 use Rattle.evaluate.proofs.run_all.Given as goal

@@ -1,5 +1,4 @@
 use Prim.Native.Nat.{ℕ}
-use borrow.Author.Rules.{rules}
 use mathlib.Core.Path.{◌∙◌, ap}
 use Rattle.evaluate.proofs.Turns.{mux_of_lem}
 use Rattle.evaluate.specs.Values.{reads as Reads-of}

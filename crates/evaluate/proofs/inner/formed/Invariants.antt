@@ -1,12 +1,7 @@
 use Prim.Native.Nat.{◌≤◌, ◌-◌}
-use borrow.Author.Rules.{rules}
-use borrow.Author.Tests.{not-false, not-true}
-use mathlib.Core.Path.{◌≡◌, refl, sym, ◌∙◌}
-use native.Mathlib.Omega.{arith}
-use Rattle.evaluate.proofs.Turns.{bad_is, bad_short, formed-done, formed_more, formed_stop, left}
+use mathlib.Core.Path.{◌≡◌}
+use Rattle.evaluate.proofs.Turns.{left}
 use Rattle.rules.specs.Emit.{formed, room}
-use Rattle.std.proofs.Common.{ap}
-use Rattle.std.proofs.Common.{not}
 use Rattle.evaluate.proofs.inner.formed.Given as goal
 
 abbrev pub invariant-loop-k : goal.invariant-loop-k

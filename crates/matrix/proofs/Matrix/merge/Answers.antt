@@ -1,4 +1,3 @@
-use borrow.Author.Rules.{rules}
 use mathlib.Core.Path.{◌∙◌, ◌≡◌, ap, subst, sym}
 use Prim.Native.Nat.{ℕ}
 use Rattle.matrix.proofs.CallMerges.{merge_child_fits, merge-fine, merge-fits, merge_low}

@@ -1,4 +1,3 @@
-use borrow.Author.Rules.{rules}
 use mathlib.Core.Path.{◌∙◌, sym}
 use Rattle.matrix.proofs.CallAdds.{new-fits}
 use Rattle.matrix.proofs.Calls.{accept, refuse}

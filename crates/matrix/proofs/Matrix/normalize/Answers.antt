@@ -1,4 +1,3 @@
-use borrow.Author.Rules.{rules}
 use mathlib.Core.Path.{◌∙◌, ap, sym}
 use Rattle.matrix.proofs.Calls.{accept, refuse, unrefused_fits}
 use Rattle.matrix.proofs.Tidies.{tidied_clean}

@@ -1,4 +1,3 @@
-use borrow.Author.Rules.{rules}
 use mathlib.Core.Path.{◌∙◌, sym}
 use Rattle.matrix.proofs.CallOuts.{outs_done, outs_refused}
 use Rattle.matrix.proofs.Calls.{unrefused_fits}

@@ -1,7 +1,4 @@
-use Prim.Native.Nat.{◌+◌, ℕ, ◌<◌}
-use borrow.Author.Rules.{rules}
-use borrow.Fn.Kinds.{In}
-use borrow.Fn.PlainCycle.{Measures, is, falls, and}
+use Prim.Native.Nat.{◌+◌}
 use lib.ListN.{length, take}
 use lib.Seq.{length-take-le}
 use mathlib.Core.Path.{◌≡◌, ap, subst, sym, ◌∙◌}

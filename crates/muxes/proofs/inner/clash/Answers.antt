@@ -1,7 +1,6 @@
-use Prim.Native.Nat.{ℕ, ◌+◌, ◌-◌}
-use borrow.Author.Rules.{rules}
+use Prim.Native.Nat.{ℕ, ◌+◌}
 use lib.Dec.{leb}
-use lib.ListN.{drop, length}
+use lib.ListN.{drop}
 use mathlib.Core.List.{List, map}
 use mathlib.Core.Path.{◌≡◌, sym, ◌∙◌}
 use Rattle.muxes.proofs.Leaves.{clash_end, clash_not, clash_once, clash_twice, crowd_start}

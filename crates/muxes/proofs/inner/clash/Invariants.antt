@@ -1,11 +1,9 @@
-use Prim.Native.Nat.{ℕ, ◌+◌, ◌-◌}
-use borrow.Author.Rules.{rules}
+use Prim.Native.Nat.{◌+◌, ◌-◌}
 use lib.Dec.{leb}
 use lib.ListN.{drop, length}
-use mathlib.Core.List.{List, map}
-use mathlib.Core.Path.{◌≡◌, sym, ◌∙◌}
-use Rattle.muxes.proofs.Leaves.{clash_end, clash_not, clash_once, clash_twice, crowd_start}
-use Rattle.rules.specs.Emit.{Update, updated, updates_of}
+use mathlib.Core.List.{map}
+use mathlib.Core.Path.{◌≡◌}
+use Rattle.rules.specs.Emit.{updated, updates_of}
 use Rattle.rules.specs.Nets.{cell}
 use Rattle.rules.specs.Trits.{bit}
 use Rattle.muxes.proofs.inner.clash.Given as goal

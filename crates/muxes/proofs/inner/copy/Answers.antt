@@ -1,9 +1,5 @@
-use Prim.Native.Nat.{◌≤◌, ◌-◌}
-use borrow.Author.Rules.{rules}
-use lib.ListN.{length, take}
-use mathlib.Core.Path.{◌≡◌}
 use native.Mathlib.Omega.{arith}
-use Rattle.lists.specs.Vec.{vec, vec_none}
+use Rattle.lists.specs.Vec.{vec_none}
 use Rattle.muxes.proofs.Spans.{copy_end, copy_turn}
 use Rattle.rules.specs.Bounds.{width_max}
 use Rattle.muxes.proofs.inner.copy.Goals as goal

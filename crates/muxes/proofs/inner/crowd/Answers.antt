@@ -1,7 +1,6 @@
-use Prim.Native.Nat.{ℕ, ◌+◌, ◌-◌}
-use borrow.Author.Rules.{rules}
+use Prim.Native.Nat.{ℕ, ◌+◌}
 use lib.Dec.{leb}
-use lib.ListN.{drop, length}
+use lib.ListN.{drop}
 use mathlib.Core.List.{List, map}
 use mathlib.Core.Path.{◌≡◌, sym, ◌∙◌}
 use Rattle.muxes.proofs.Leaves.{crowd_end, crowd_not, crowd_once, crowd_start, crowd_twice}

@@ -1,10 +1,8 @@
-use Prim.Native.Nat.{ℕ, ◌+◌, ◌-◌}
-use borrow.Author.Rules.{rules}
+use Prim.Native.Nat.{◌+◌, ◌-◌}
 use lib.Dec.{leb}
 use lib.ListN.{drop, length}
-use mathlib.Core.List.{List, map}
-use mathlib.Core.Path.{◌≡◌, sym, ◌∙◌}
-use Rattle.muxes.proofs.Leaves.{crowd_end, crowd_not, crowd_once, crowd_start, crowd_twice}
+use mathlib.Core.List.{map}
+use mathlib.Core.Path.{◌≡◌}
 use Rattle.rules.specs.Nets.{cell}
 use Rattle.rules.specs.Prefix.{hits}
 use Rattle.rules.specs.Trits.{bit}

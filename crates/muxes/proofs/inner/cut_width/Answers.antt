@@ -1,4 +1,3 @@
-use borrow.Author.Rules.{rules}
 use lib.ListN.{get_or-eq_default}
 use native.Mathlib.Omega.{arith}
 use Rattle.muxes.proofs.inner.cut_width.Goals as goal

@@ -1,8 +1,4 @@
-use Prim.Native.Nat.{◌-◌}
-use borrow.Author.Rules.{rules}
-use lib.ListN.{drop, length}
-use mathlib.Core.Path.{◌≡◌, refl, sym, ◌∙◌}
-use Rattle.lists.specs.Lists.{mem}
+use mathlib.Core.Path.{refl, sym, ◌∙◌}
 use Rattle.muxes.proofs.Leaves.{held, held_next, held_none}
 use Rattle.muxes.proofs.inner.holds.Goals as goal
 

@@ -1,9 +1,7 @@
 use Prim.Native.Nat.{◌-◌}
-use borrow.Author.Rules.{rules}
 use lib.ListN.{drop, length}
-use mathlib.Core.Path.{◌≡◌, refl, sym, ◌∙◌}
+use mathlib.Core.Path.{◌≡◌}
 use Rattle.lists.specs.Lists.{mem}
-use Rattle.muxes.proofs.Leaves.{held, held_next, held_none}
 use Rattle.muxes.proofs.inner.holds.Given as goal
 
 abbrev pub invariant-loop-i : goal.invariant-loop-i

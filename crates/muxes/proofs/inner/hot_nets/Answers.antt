@@ -1,14 +1,10 @@
-use Prim.Native.Nat.{◌≤◌, ◌-◌}
-use borrow.Author.Rules.{rules}
-use lib.ListN.{length, take}
 use mathlib.Core.Bool.{Bool}
 use mathlib.Core.List.{map}
-use mathlib.Core.Path.{◌≡◌, ap, ◌∙◌}
+use mathlib.Core.Path.{ap, ◌∙◌}
 use native.Mathlib.Omega.{arith}
-use Rattle.lists.specs.Vec.{vec, vec_none}
+use Rattle.lists.specs.Vec.{vec_none}
 use Rattle.muxes.proofs.Hots.{hot_end, hot_turn}
 use Rattle.rules.specs.Bounds.{width_max}
-use Rattle.rules.specs.Emit.{one_hot}
 use Rattle.rules.specs.Nets.{cell}
 use Rattle.rules.specs.Trits.{bit}
 use Rattle.muxes.proofs.inner.hot_nets.Goals as goal

@@ -1,4 +1,4 @@
-use Prim.Native.Nat.{◌≤◌, ◌-◌, ◌+◌, ℕ}
+use Prim.Native.Nat.{◌+◌, ℕ}
 use borrow.Author.Rules.{rules}
 use lib.ListN.{length, take}
 use mathlib.Core.Path.{◌≡◌, refl, ap, ◌∙◌}

@@ -1,14 +1,10 @@
-use Prim.Native.Nat.{◌≤◌, ◌-◌, ◌+◌, ℕ}
-use borrow.Author.Rules.{rules}
+use Prim.Native.Nat.{◌≤◌, ◌-◌}
 use lib.ListN.{length, take}
-use mathlib.Core.Path.{◌≡◌, refl, ap, ◌∙◌}
-use native.Mathlib.Omega.{arith}
+use mathlib.Core.Path.{◌≡◌}
 use Rattle.lists.specs.Vec.{vec}
-use Rattle.muxes.proofs.Puts.{nets_start, joins_nets, joins_put, joins_start}
 use Rattle.rules.specs.Bounds.{width_max}
 use Rattle.rules.specs.Closed.{branch, drives}
 use Rattle.rules.specs.Emit.{appended}
-use Rattle.rules.specs.Nets.{cell}
 use Rattle.muxes.proofs.inner.join.Given as goal
 
 abbrev pub invariant-loop-i : goal.invariant-loop-i

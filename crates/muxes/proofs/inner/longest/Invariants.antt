@@ -1,18 +1,10 @@
 use Prim.Native.Nat.{◌≤◌, ◌+◌, ◌-◌}
-use borrow.Author.Rules.{rules}
-use borrow.Author.Tests.{not-false, not-true}
 use lib.ListN.{drop, length, take}
-use lib.Seq.{length-take-le}
 use mathlib.Core.Bool.{true}
-use mathlib.Core.List.{[]}
-use mathlib.Core.Path.{◌≡◌, refl, sym, ◌∙◌}
-use native.Mathlib.Omega.{arith}
-use Rattle.muxes.proofs.Leaves.{among_more, any_tree, from_alien, from_crowd, from_end, from_more}
-use Rattle.rules.specs.Prefix.{among, crowded, prefix, prefix_from}
+use mathlib.Core.Path.{◌≡◌}
+use Rattle.rules.specs.Prefix.{among, prefix, prefix_from}
 use Rattle.rules.specs.Store.{encode}
-use Rattle.rules.specs.Tree.{Tree, fine, leaf}
-use Rattle.std.proofs.Common.{ap}
-use Rattle.std.proofs.Common.{not}
+use Rattle.rules.specs.Tree.{Tree, fine}
 use Rattle.muxes.proofs.inner.longest.Given as goal
 
 abbrev pub invariant-loop-i : goal.invariant-loop-i

@@ -1,11 +1,5 @@
-use Prim.Native.Nat.{◌-◌}
-use borrow.Author.Rules.{rules}
-use lib.ListN.{drop, length}
-use mathlib.Core.List.{map}
-use mathlib.Core.Path.{◌≡◌, refl, sym, ◌∙◌}
-use Rattle.lists.specs.Lists.{mem}
+use mathlib.Core.Path.{refl, sym, ◌∙◌}
 use Rattle.muxes.proofs.Hots.{mem-found, mem_next, mem_none}
-use Rattle.rules.specs.Nets.{cell}
 use Rattle.muxes.proofs.inner.names.Goals as goal
 
 pub loop-i-init : goal.loop-i-init

@@ -1,10 +1,8 @@
 use Prim.Native.Nat.{◌-◌}
-use borrow.Author.Rules.{rules}
 use lib.ListN.{drop, length}
 use mathlib.Core.List.{map}
-use mathlib.Core.Path.{◌≡◌, refl, sym, ◌∙◌}
+use mathlib.Core.Path.{◌≡◌}
 use Rattle.lists.specs.Lists.{mem}
-use Rattle.muxes.proofs.Hots.{mem-found, mem_next, mem_none}
 use Rattle.rules.specs.Nets.{cell}
 use Rattle.muxes.proofs.inner.names.Given as goal
 

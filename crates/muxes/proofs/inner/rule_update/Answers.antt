@@ -1,12 +1,7 @@
-use Prim.Native.Nat.{◌-◌, ℕ}
-use borrow.Author.Rules.{rules}
-use lib.ListN.{drop, length}
-use mathlib.Core.List.{List, map}
-use mathlib.Core.Path.{◌≡◌, refl, ◌∙◌}
+use mathlib.Core.Path.{refl, ◌∙◌}
 use native.Mathlib.Omega.{arith}
 use Rattle.muxes.proofs.Spans.{rule_has, rule_lacks, rules_end}
-use Rattle.rules.specs.Emit.{disjoint, updates_of}
-use Rattle.rules.specs.Nets.{cell}
+use Rattle.rules.specs.Emit.{updates_of}
 use Rattle.muxes.proofs.inner.rule_update.Goals as goal
 
 pub loop-i-init : goal.loop-i-init

@@ -1,10 +1,7 @@
 use Prim.Native.Nat.{◌-◌, ℕ}
-use borrow.Author.Rules.{rules}
 use lib.ListN.{drop, length}
 use mathlib.Core.List.{List, map}
-use mathlib.Core.Path.{◌≡◌, refl, ◌∙◌}
-use native.Mathlib.Omega.{arith}
-use Rattle.muxes.proofs.Spans.{rule_has, rule_lacks, rules_end}
+use mathlib.Core.Path.{◌≡◌}
 use Rattle.rules.specs.Emit.{disjoint, updates_of}
 use Rattle.rules.specs.Nets.{cell}
 use Rattle.muxes.proofs.inner.rule_update.Given as goal

@@ -1,10 +1,9 @@
-use Prim.Native.Nat.{◌≤◌, ◌-◌, ◌*◌, ◌/◌}
-use borrow.Author.Rules.{rules}
+use Prim.Native.Nat.{◌*◌, ◌/◌}
 use lib.ListN.{drop, length}
-use mathlib.Core.Path.{◌≡◌, refl, sym, ◌∙◌}
+use mathlib.Core.Path.{refl, sym, ◌∙◌}
 use native.Mathlib.Omega.{arith}
 use Rattle.muxes.proofs.Leaves.{any_end, any_more, any_start, any_stop, run_long}
-use Rattle.muxes.specs.Leaves.{any_leaf, twice}
+use Rattle.muxes.specs.Leaves.{twice}
 use Rattle.rules.specs.Bounds.{node_run}
 use Rattle.muxes.proofs.inner.some_leaf.Goals as goal
 

@@ -1,11 +1,8 @@
-use Prim.Native.Nat.{◌≤◌, ◌-◌, ◌+◌}
-use borrow.Author.Rules.{rules}
 use lib.Dec.{eqb}
 use lib.ListN.{get_or, length}
-use mathlib.Core.Path.{◌≡◌, sym, ◌∙◌}
+use mathlib.Core.Path.{sym, ◌∙◌}
 use native.Mathlib.Omega.{arith}
-use Rattle.muxes.proofs.Spans.{later, later_end, later_start, later_turn, span_in}
-use Rattle.rules.specs.Emit.{update_for, updates_of}
+use Rattle.muxes.proofs.Spans.{later_end, later_start, later_turn, span_in}
 use Rattle.muxes.proofs.inner.update_for.Goals as goal
 
 pub loop-i-init : goal.loop-i-init

@@ -1,5 +1,4 @@
 use Prim.Native.Nat.{ℕ}
-use borrow.Author.Rules.{rules}
 use lib.ListN.{length}
 use mathlib.Core.List.{List, map}
 use mathlib.Core.Path.{ap, ◌∙◌}

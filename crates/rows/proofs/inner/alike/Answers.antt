@@ -1,10 +1,8 @@
 use borrow.Author.Rules.{rules}
-use lib.ListN.{length, take}
-use lib.Seq.{slice}
+use lib.ListN.{length}
 use mathlib.Core.Path.{◌≡◌, sym, ◌∙◌}
 use native.Mathlib.Omega.{arith}
-use Prim.Native.Nat.{◌-◌, ◌≤◌}
-use Rattle.lists.specs.Lists.{same, same-done, same_more, same_stop}
+use Rattle.lists.specs.Lists.{same-done, same_more, same_stop}
 use Rattle.rules.specs.Bounds.{columns_max}
 use Rattle.rows.proofs.inner.alike.Goals as goal
 

@@ -1,11 +1,8 @@
-use borrow.Author.Rules.{rules}
-use lib.ListN.{length, take}
+use lib.ListN.{take}
 use lib.Seq.{slice}
-use mathlib.Core.Path.{◌≡◌, sym, ◌∙◌}
-use native.Mathlib.Omega.{arith}
+use mathlib.Core.Path.{◌≡◌}
 use Prim.Native.Nat.{◌-◌, ◌≤◌}
-use Rattle.lists.specs.Lists.{same, same-done, same_more, same_stop}
-use Rattle.rules.specs.Bounds.{columns_max}
+use Rattle.lists.specs.Lists.{same}
 use Rattle.rows.proofs.inner.alike.Given as goal
 
 abbrev pub invariant-loop-i : goal.invariant-loop-i

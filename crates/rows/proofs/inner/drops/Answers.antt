@@ -1,4 +1,3 @@
-use borrow.Author.Rules.{rules}
 use mathlib.Core.Path.{sym}
 use Rattle.rows.proofs.Masks.{drops_x, drops-cell, drops_const, drops_const_x, drops-first_x}
 use Rattle.rules.specs.Codes.{net_code}

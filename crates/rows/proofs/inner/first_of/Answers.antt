@@ -1,12 +1,9 @@
 use borrow.Author.Rules.{rules}
-use lib.ListN.{length, take}
-use lib.Seq.{slice}
+use lib.ListN.{length}
 use mathlib.Core.Path.{◌≡◌, sym, ◌∙◌}
 use native.Mathlib.Omega.{arith}
-use Prim.Native.Nat.{◌+◌, ◌-◌, ◌≤◌}
 use Rattle.rows.proofs.Laws.{place_end, place_more, place_stop}
 use Rattle.rules.specs.Bounds.{columns_max}
-use Rattle.rules.specs.Steps.{place}
 use Rattle.rows.proofs.inner.first_of.Goals as goal
 
 pub returns-then-value-i : goal.returns-then-value-i

@@ -1,11 +1,7 @@
-use borrow.Author.Rules.{rules}
-use lib.ListN.{length, take}
+use lib.ListN.{take}
 use lib.Seq.{slice}
-use mathlib.Core.Path.{◌≡◌, sym, ◌∙◌}
-use native.Mathlib.Omega.{arith}
+use mathlib.Core.Path.{◌≡◌}
 use Prim.Native.Nat.{◌+◌, ◌-◌, ◌≤◌}
-use Rattle.rows.proofs.Laws.{place_end, place_more, place_stop}
-use Rattle.rules.specs.Bounds.{columns_max}
 use Rattle.rules.specs.Steps.{place}
 use Rattle.rows.proofs.inner.first_of.Given as goal
 

@@ -3,7 +3,6 @@ use lib.ListN.{length, take}
 use lib.Seq.{take_all}
 use mathlib.Core.Path.{◌≡◌, ap, ◌∙◌}
 use native.Mathlib.Omega.{arith}
-use Prim.Native.Nat.{◌-◌, ◌≤◌}
 use Rattle.lists.specs.Vec.{vec, vec_none}
 use Rattle.rows.proofs.Laws.{length-places, places_fill}
 use Rattle.rows.specs.Rows.{places}

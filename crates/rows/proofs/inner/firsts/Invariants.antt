@@ -1,11 +1,7 @@
-use borrow.Author.Rules.{rules}
-use lib.ListN.{length, take}
-use lib.Seq.{take_all}
-use mathlib.Core.Path.{◌≡◌, ap, ◌∙◌}
-use native.Mathlib.Omega.{arith}
+use lib.ListN.{take}
+use mathlib.Core.Path.{◌≡◌}
 use Prim.Native.Nat.{◌-◌, ◌≤◌}
-use Rattle.lists.specs.Vec.{vec, vec_none}
-use Rattle.rows.proofs.Laws.{length-places, places_fill}
+use Rattle.lists.specs.Vec.{vec}
 use Rattle.rows.specs.Rows.{places}
 use Rattle.rules.specs.Bounds.{columns_max}
 use Rattle.rows.proofs.inner.firsts.Given as goal

@@ -4,7 +4,7 @@ use lib.Seq.{length-take-le}
 use mathlib.Core.List.{List, ◌++◌, append-nil}
 use mathlib.Core.Path.{◌≡◌, ap, sym, ◌∙◌}
 use native.Mathlib.Omega.{arith}
-use Prim.Native.Nat.{ℕ, ◌-◌, ◌≤◌}
+use Prim.Native.Nat.{ℕ}
 use Rattle.lists.specs.Vec.{length-vec, vec}
 use Rattle.rows.proofs.Laws.{join_fill, take_tidy}
 use Rattle.rules.specs.Bounds.{columns_max}

@@ -1,12 +1,8 @@
-use borrow.Author.Rules.{rules}
-use lib.ListN.{length, take}
-use lib.Seq.{length-take-le}
-use mathlib.Core.List.{List, ◌++◌, append-nil}
-use mathlib.Core.Path.{◌≡◌, ap, sym, ◌∙◌}
-use native.Mathlib.Omega.{arith}
-use Prim.Native.Nat.{ℕ, ◌-◌, ◌≤◌}
-use Rattle.lists.specs.Vec.{length-vec, vec}
-use Rattle.rows.proofs.Laws.{join_fill, take_tidy}
+use lib.ListN.{take}
+use mathlib.Core.List.{◌++◌}
+use mathlib.Core.Path.{◌≡◌}
+use Prim.Native.Nat.{◌-◌, ◌≤◌}
+use Rattle.lists.specs.Vec.{vec}
 use Rattle.rules.specs.Bounds.{columns_max}
 use Rattle.rows.proofs.inner.joined_nets.Given as goal
 

@@ -1,4 +1,3 @@
-use borrow.Author.Rules.{rules}
 use lib.ListN.{replicate}
 use mathlib.Core.Path.{◌∙◌}
 use Rattle.rows.proofs.Laws.{vec-last}

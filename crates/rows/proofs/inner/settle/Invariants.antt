@@ -1,11 +1,5 @@
-use borrow.Author.Rules.{rules}
-use lib.ListN.{length}
-use mathlib.Core.Path.{◌≡◌, sym, ◌∙◌}
-use native.Mathlib.Omega.{arith}
 use Prim.Native.Nat.{◌-◌, ◌≤◌}
-use Rattle.lists.specs.Vec.{vec}
-use Rattle.rows.proofs.Walked.{First, Going, first_is, going, going_drop, going_end, going_on}
-use Rattle.rules.specs.Bounds.{columns_max}
+use Rattle.rows.proofs.Walked.{Going}
 use Rattle.rows.proofs.inner.settle.Given as goal
 
 abbrev pub invariant-loop-j : goal.invariant-loop-j

@@ -3,8 +3,7 @@ use borrow.Author.Tests.{not-false, not-true}
 use lib.ListN.{length}
 use mathlib.Core.Path.{◌≡◌}
 use native.Mathlib.Omega.{arith}
-use Prim.Native.Nat.{◌-◌, ◌≤◌}
-use Rattle.lists.specs.Keep.{Kept, goes, starts, stays}
+use Rattle.lists.specs.Keep.{goes, starts, stays}
 use Rattle.lists.specs.Vec.{vec_none}
 use Rattle.rules.specs.Bounds.{columns_max}
 use Rattle.std.proofs.Common.{ap}

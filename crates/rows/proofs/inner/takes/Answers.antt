@@ -1,4 +1,3 @@
-use borrow.Author.Rules.{rules}
 use mathlib.Core.Path.{sym}
 use Rattle.rows.proofs.Masks.{takes_const, takes_first, takes_mask}
 use Rattle.rows.proofs.inner.takes.Goals as goal

@@ -1,9 +1,8 @@
 use borrow.Author.Rules.{rules}
-use lib.ListN.{length, take}
+use lib.ListN.{length}
 use mathlib.Core.Path.{◌≡◌}
 use native.Mathlib.Omega.{arith}
-use Prim.Native.Nat.{◌-◌, ◌≤◌}
-use Rattle.lists.specs.Vec.{fill, vec, vec_none}
+use Rattle.lists.specs.Vec.{fill, vec_none}
 use Rattle.rules.specs.Bounds.{columns_max}
 use Rattle.rows.proofs.inner.tidy.Goals as goal
 

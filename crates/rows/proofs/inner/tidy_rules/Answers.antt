@@ -1,10 +1,9 @@
 use borrow.Author.Rules.{rules}
-use lib.ListN.{length, take}
+use lib.ListN.{length}
 use lib.Seq.{length-take-le}
 use mathlib.Core.Path.{◌≡◌, refl, sym}
 use native.Mathlib.Omega.{arith}
-use Prim.Native.Nat.{◌-◌, ◌≤◌}
-use Rattle.lists.specs.Vec.{fill, vec, vec_none}
+use Rattle.lists.specs.Vec.{fill, vec_none}
 use Rattle.rules.specs.Bounds.{rules_max}
 use Rattle.sets.proofs.Unions.{rules_path}
 use Rattle.rows.proofs.inner.tidy_rules.Goals as goal

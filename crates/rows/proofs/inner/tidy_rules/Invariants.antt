@@ -1,12 +1,8 @@
-use borrow.Author.Rules.{rules}
-use lib.ListN.{length, take}
-use lib.Seq.{length-take-le}
-use mathlib.Core.Path.{◌≡◌, refl, sym}
-use native.Mathlib.Omega.{arith}
+use lib.ListN.{take}
+use mathlib.Core.Path.{◌≡◌}
 use Prim.Native.Nat.{◌-◌, ◌≤◌}
-use Rattle.lists.specs.Vec.{fill, vec, vec_none}
+use Rattle.lists.specs.Vec.{vec}
 use Rattle.rules.specs.Bounds.{rules_max}
-use Rattle.sets.proofs.Unions.{rules_path}
 use Rattle.rows.proofs.inner.tidy_rules.Given as goal
 
 abbrev pub invariant-loop-i : goal.invariant-loop-i

@@ -1,12 +1,11 @@
 use borrow.Author.Rules.{rules}
 use borrow.Author.Tests.{le-ltb, lt-ltb}
-use lib.ListN.{drop, get_or, length, take}
+use lib.ListN.{get_or, length, take}
 use lib.Seq.{get_or-take}
 use mathlib.Core.Bool.{false, true}
 use mathlib.Core.Path.{◌≡◌, sym, ◌∙◌}
 use native.Mathlib.Omega.{arith}
-use Prim.Native.Nat.{◌-◌, ◌≤◌}
-use Rattle.lists.specs.Lists.{all, rest-done, rest_more, rest_stop}
+use Rattle.lists.specs.Lists.{rest-done, rest_more, rest_stop}
 use Rattle.rows.proofs.Laws.{length-take_most, take_within}
 use Rattle.rules.specs.Bounds.{columns_max}
 use Rattle.rules.specs.Trits.{is_trit}

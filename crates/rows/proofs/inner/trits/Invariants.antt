@@ -1,13 +1,7 @@
-use borrow.Author.Rules.{rules}
-use borrow.Author.Tests.{le-ltb, lt-ltb}
-use lib.ListN.{drop, get_or, length, take}
-use lib.Seq.{get_or-take}
-use mathlib.Core.Bool.{false, true}
-use mathlib.Core.Path.{◌≡◌, sym, ◌∙◌}
-use native.Mathlib.Omega.{arith}
+use lib.ListN.{drop, take}
+use mathlib.Core.Path.{◌≡◌}
 use Prim.Native.Nat.{◌-◌, ◌≤◌}
-use Rattle.lists.specs.Lists.{all, rest-done, rest_more, rest_stop}
-use Rattle.rows.proofs.Laws.{length-take_most, take_within}
+use Rattle.lists.specs.Lists.{all}
 use Rattle.rules.specs.Bounds.{columns_max}
 use Rattle.rules.specs.Trits.{is_trit}
 use Rattle.rows.proofs.inner.trits.Given as goal

@@ -1,14 +1,11 @@
 use borrow.Author.Rules.{rules}
 use borrow.Author.Tests.{eq-eqb, ne_eqb}
 use lib.ListN.{length, take}
-use lib.Seq.{slice}
 use mathlib.Core.Path.{◌≡◌, sym, ◌∙◌}
 use native.Mathlib.Omega.{arith}
-use Prim.Native.Nat.{◌-◌, ◌≤◌}
-use Rattle.lists.specs.Lists.{all, all_done, all_more, all_stop}
+use Rattle.lists.specs.Lists.{all_done, all_more, all_stop}
 use Rattle.rows.proofs.Laws.{all_x_is}
 use Rattle.rules.specs.Bounds.{columns_max}
-use Rattle.rules.specs.Matrix.{all_x}
 use Rattle.rules.specs.Trits.{is_x}
 use Rattle.rows.proofs.inner.undef.Goals as goal
 

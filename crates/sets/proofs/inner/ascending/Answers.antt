@@ -1,10 +1,6 @@
-use Prim.Native.Nat.{◌-◌, ◌≤◌}
 use borrow.Author.Rules.{rules}
-use lib.ListN.{drop, length}
-use mathlib.Core.Path.{◌≡◌, sym, ◌∙◌}
+use mathlib.Core.Path.{sym, ◌∙◌}
 use native.Mathlib.Omega.{arith}
-use Rattle.rules.specs.Bounds.{rules_max}
-use Rattle.rules.specs.Given.{above, ascends, cells}
 use Rattle.sets.proofs.Laws.{above-done, above_more, above_skip, above_start, above_stop}
 use Rattle.sets.specs.Sets.{list_of}
 use Rattle.sets.proofs.inner.ascending.Goals as goal

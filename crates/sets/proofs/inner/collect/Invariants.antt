@@ -1,13 +1,10 @@
-use Prim.Native.Nat.{◌-◌, ◌*◌, ◌≤◌}
-use borrow.Author.Rules.{rules}
-use lib.ListN.{get_or, drop, length}
+use Prim.Native.Nat.{◌*◌, ◌≤◌}
+use lib.ListN.{drop, length}
 use mathlib.Core.List.{[]}
-use mathlib.Core.Path.{◌≡◌, refl}
-use native.Mathlib.Omega.{arith}
+use mathlib.Core.Path.{◌≡◌}
 use Rattle.lists.specs.Vec.{vec}
 use Rattle.rules.specs.Bounds.{rules_max}
 use Rattle.rules.specs.Matrix.{union}
-use Rattle.sets.proofs.Unions.{collect_few, collect_many, collect_start, inserted_turn, vec_long}
 use Rattle.sets.proofs.inner.collect.Given as goal
 
 abbrev pub invariant-loop-i : goal.invariant-loop-i

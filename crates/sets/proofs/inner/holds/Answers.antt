@@ -1,11 +1,7 @@
-use Prim.Native.Nat.{◌-◌, ◌≤◌}
 use borrow.Author.Rules.{rules}
 use borrow.Author.Tests.{eq-eqb, ne_eqb}
-use lib.ListN.{drop, length}
-use mathlib.Core.Path.{◌≡◌, refl, sym, ◌∙◌}
+use mathlib.Core.Path.{refl, sym, ◌∙◌}
 use native.Mathlib.Omega.{arith}
-use Rattle.lists.specs.Lists.{mem}
-use Rattle.rules.specs.Bounds.{rules_max}
 use Rattle.sets.proofs.Laws.{mem-done, mem_more, mem_stop}
 use Rattle.sets.specs.Sets.{list_of}
 use Rattle.sets.proofs.inner.holds.Goals as goal

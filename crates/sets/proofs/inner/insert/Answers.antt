@@ -1,4 +1,3 @@
-use borrow.Author.Rules.{rules}
 use Rattle.sets.proofs.Inserts.{insert_kept, insert_put, spot-front}
 use Rattle.sets.proofs.inner.insert.Goals as goal
 

@@ -1,11 +1,8 @@
-use Prim.Native.Nat.{◌-◌, ◌≤◌}
 use borrow.Author.Rules.{rules}
 use borrow.Author.Tests.{not-false, not-true}
-use lib.ListN.{drop, length}
-use mathlib.Core.Path.{◌≡◌, refl, sym, ◌∙◌}
+use mathlib.Core.Path.{refl, sym, ◌∙◌}
 use native.Mathlib.Omega.{arith}
-use Rattle.lists.specs.Lists.{all, rest-done}
-use Rattle.rules.specs.Bounds.{rules_max}
+use Rattle.lists.specs.Lists.{rest-done}
 use Rattle.rules.specs.Nets.{is_name}
 use Rattle.sets.proofs.Laws.{slots_more, slots_stop}
 use Rattle.sets.specs.Sets.{list_of}

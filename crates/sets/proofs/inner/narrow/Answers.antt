@@ -1,4 +1,4 @@
-use Prim.Native.Nat.{ℕ, ◌-◌, ◌*◌, ◌≤◌}
+use Prim.Native.Nat.{ℕ, ◌*◌}
 use borrow.Author.Rules.{rules}
 use lib.ListN.{length, take}
 use lib.Seq.{get_or-take, length-take-le, take_all}

@@ -1,14 +1,8 @@
-use Prim.Native.Nat.{ℕ, ◌-◌, ◌*◌, ◌≤◌}
-use borrow.Author.Rules.{rules}
-use lib.ListN.{length, take}
-use lib.Seq.{get_or-take, length-take-le, take_all}
-use mathlib.Core.List.{List}
-use mathlib.Core.Path.{◌≡◌, refl, sym, ap, ◌∙◌}
-use native.Mathlib.Omega.{arith}
-use Rattle.lists.specs.Vec.{fill, vec, vec_none}
+use Prim.Native.Nat.{◌-◌, ◌≤◌}
+use lib.ListN.{take}
+use mathlib.Core.Path.{◌≡◌}
+use Rattle.lists.specs.Vec.{vec}
 use Rattle.rules.specs.Bounds.{rules_max}
-use Rattle.sets.proofs.Unions.{rules_path}
-use Rattle.sets.specs.Sets.{rules_from}
 use Rattle.sets.proofs.inner.narrow.Given as goal
 
 abbrev pub invariant-loop-i : goal.invariant-loop-i

@@ -1,16 +1,10 @@
 use Prim.Native.Nat.{◌-◌, ◌≤◌}
-use borrow.Author.Rules.{rules}
-use borrow.Author.Tests.{not-false, not-true}
 use lib.ListN.{drop, length}
-use mathlib.Core.Path.{◌≡◌, refl, sym, ◌∙◌}
-use native.Mathlib.Omega.{arith}
-use Rattle.lists.specs.Lists.{all, rest-done}
+use mathlib.Core.Path.{◌≡◌}
+use Rattle.lists.specs.Lists.{all}
 use Rattle.rules.specs.Bounds.{rules_max}
 use Rattle.rules.specs.Nets.{is_net}
-use Rattle.sets.proofs.Laws.{slots_more, slots_stop}
 use Rattle.sets.specs.Sets.{list_of}
-use Rattle.std.proofs.Common.{ap, not}
-use Rattle.std.proofs.Common.{ap, not}
 use Rattle.sets.proofs.inner.nets.Given as goal
 
 abbrev pub invariant-loop-i : goal.invariant-loop-i

@@ -1,11 +1,9 @@
-use Prim.Native.Nat.{◌+◌, ◌-◌, ◌≤◌}
 use borrow.Author.Rules.{rules}
-use lib.ListN.{drop, length, take}
+use lib.ListN.{length, take}
 use lib.Seq.{length-take-le}
 use mathlib.Core.Path.{◌≡◌, sym, ◌∙◌}
 use native.Mathlib.Omega.{arith}
 use Rattle.sets.proofs.Inserts.{spot-done, spot_more, spot_stop}
-use Rattle.sets.specs.Insert.{spot}
 use Rattle.sets.proofs.inner.place.Goals as goal
 
 pub loop-i-init : goal.loop-i-init

@@ -1,10 +1,6 @@
 use Prim.Native.Nat.{◌+◌, ◌-◌, ◌≤◌}
-use borrow.Author.Rules.{rules}
-use lib.ListN.{drop, length, take}
-use lib.Seq.{length-take-le}
-use mathlib.Core.Path.{◌≡◌, sym, ◌∙◌}
-use native.Mathlib.Omega.{arith}
-use Rattle.sets.proofs.Inserts.{spot-done, spot_more, spot_stop}
+use lib.ListN.{drop, take}
+use mathlib.Core.Path.{◌≡◌}
 use Rattle.sets.specs.Insert.{spot}
 use Rattle.sets.proofs.inner.place.Given as goal
 

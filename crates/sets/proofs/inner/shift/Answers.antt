@@ -1,11 +1,10 @@
-use Prim.Native.Nat.{ℕ, ◌+◌, ◌-◌, ◌≤◌, ◌<◌}
+use Prim.Native.Nat.{ℕ, ◌≤◌, ◌<◌}
 use borrow.Author.Rules.{rules}
-use lib.ListN.{drop, get_or, length, length-set, take}
-use mathlib.Core.List.{◌++◌}
+use lib.ListN.{length, length-set}
 use mathlib.Core.Path.{◌≡◌, refl, sym, ap, ◌∙◌}
 use native.Mathlib.Omega.{arith}
 use Rattle.sets.proofs.Inserts.{put_at-at, put_at-front, shift_carry, shift_turn}
-use Rattle.sets.specs.Insert.{moved, put_at}
+use Rattle.sets.specs.Insert.{moved}
 use Rattle.sets.proofs.inner.shift.Goals as goal
 
 pub loop-k-init : goal.loop-k-init

@@ -1,11 +1,8 @@
-use Prim.Native.Nat.{ℕ, ◌+◌, ◌-◌, ◌≤◌, ◌<◌}
-use borrow.Author.Rules.{rules}
-use lib.ListN.{drop, get_or, length, length-set, take}
+use Prim.Native.Nat.{◌-◌, ◌≤◌}
+use lib.ListN.{drop, get_or, length, take}
 use mathlib.Core.List.{◌++◌}
-use mathlib.Core.Path.{◌≡◌, refl, sym, ap, ◌∙◌}
-use native.Mathlib.Omega.{arith}
-use Rattle.sets.proofs.Inserts.{put_at-at, put_at-front, shift_carry, shift_turn}
-use Rattle.sets.specs.Insert.{moved, put_at}
+use mathlib.Core.Path.{◌≡◌}
+use Rattle.sets.specs.Insert.{put_at}
 use Rattle.sets.proofs.inner.shift.Given as goal
 
 abbrev pub invariant-loop-k : goal.invariant-loop-k

@@ -1,11 +1,9 @@
 use Prim.Native.Nat.{◌-◌, ◌*◌, ◌≤◌}
 use borrow.Author.Rules.{rules}
-use lib.ListN.{get_or, length-take, drop, length, take}
+use lib.ListN.{get_or, length-take, length, take}
 use mathlib.Core.Path.{◌≡◌}
 use native.Mathlib.Omega.{arith}
-use Rattle.lists.specs.Vec.{vec}
 use Rattle.rules.specs.Bounds.{rules_max}
-use Rattle.rules.specs.Matrix.{union}
 use Rattle.sets.proofs.Laws.{slot}
 use Rattle.sets.proofs.Unions.{inserted_turn, union-room, united_end, united_start, vec_long, wide_list}
 use Rattle.sets.specs.Sets.{list_of}

@@ -1,15 +1,9 @@
-use Prim.Native.Nat.{ℕ, ◌-◌, ◌*◌, ◌≤◌, ◌<◌}
-use borrow.Author.Rules.{rules}
+use Prim.Native.Nat.{◌-◌, ◌*◌, ◌≤◌}
 use lib.ListN.{length, take}
-use lib.Seq.{take_all}
-use mathlib.Core.List.{List}
-use mathlib.Core.Path.{◌≡◌, ap, ◌∙◌}
-use native.Mathlib.Omega.{arith}
-use Rattle.lists.specs.Vec.{fill, vec, vec_none}
+use mathlib.Core.Path.{◌≡◌}
+use Rattle.lists.specs.Vec.{vec}
 use Rattle.rules.specs.Bounds.{rules_max}
-use Rattle.sets.proofs.Laws.{slot}
-use Rattle.sets.proofs.Unions.{wide_path}
-use Rattle.sets.specs.Sets.{list_of, wide_from}
+use Rattle.sets.specs.Sets.{list_of}
 use Rattle.sets.proofs.inner.widen.Given as goal
 
 abbrev pub invariant-loop-i : goal.invariant-loop-i

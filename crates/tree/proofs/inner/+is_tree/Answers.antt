@@ -1,12 +1,7 @@
-use Prim.Native.Nat.{ℕ, ◌<◌}
 use mathlib.Core.Bool.{true≢false}
 use mathlib.Core.Path.{sym}
 use native.Mathlib.Omega.{arith}
-use borrow.Author.Rules.{rules}
 use borrow.Author.Tests.{not-false, not-true}
-use borrow.Fn.Kinds.{In}
-use borrow.Fn.PlainCycle.{Measures, is, falls, and}
-use lib.ListN.{length}
 use lib.Seq.{length-take-le}
 use Rattle.tree.proofs.Forms.{last-alone, last-bad, last_joins, part_long}
 use Rattle.tree.specs.Form.{Split}

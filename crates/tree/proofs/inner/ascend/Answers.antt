@@ -1,9 +1,6 @@
-use Prim.Native.Nat.{◌≤◌, ◌-◌}
-use mathlib.Core.Path.{◌≡◌, refl, sym, ◌∙◌}
+use mathlib.Core.Path.{refl, sym, ◌∙◌}
 use native.Mathlib.Omega.{arith}
-use borrow.Author.Rules.{rules}
-use lib.ListN.{drop, length}
-use Rattle.tree.proofs.Named.{named, named_end, named_high, named_is, named-low, named_more}
+use Rattle.tree.proofs.Named.{named_end, named_high, named_is, named-low, named_more}
 use Rattle.tree.proofs.inner.ascend.Goals as goal
 
 pub loop-i-init : goal.loop-i-init

@@ -1,9 +1,7 @@
 use Prim.Native.Nat.{◌≤◌, ◌-◌}
-use mathlib.Core.Path.{◌≡◌, refl, sym, ◌∙◌}
-use native.Mathlib.Omega.{arith}
-use borrow.Author.Rules.{rules}
+use mathlib.Core.Path.{◌≡◌}
 use lib.ListN.{drop, length}
-use Rattle.tree.proofs.Named.{named, named_end, named_high, named_is, named-low, named_more}
+use Rattle.tree.proofs.Named.{named}
 use Rattle.tree.proofs.inner.ascend.Given as goal
 
 abbrev pub invariant-loop-i : goal.invariant-loop-i

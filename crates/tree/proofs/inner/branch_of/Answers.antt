@@ -3,7 +3,6 @@ use mathlib.Core.Bool.{true≢false}
 use mathlib.Core.List.{List}
 use mathlib.Core.Path.{refl, sym, ◌∙◌}
 use native.Mathlib.Omega.{arith}
-use borrow.Author.Rules.{rules}
 use borrow.Author.Tests.{not-false, not-true}
 use lib.Seq.{length-take-le}
 use Rattle.tree.proofs.Forms.{parts, split, zeros_of}

@@ -1,10 +1,8 @@
-use Prim.Native.Nat.{◌≤◌, ◌-◌, zero-le}
-use mathlib.Core.List.{◌++◌}
-use mathlib.Core.Path.{◌≡◌, refl}
+use Prim.Native.Nat.{zero-le}
+use mathlib.Core.Path.{refl}
 use native.Mathlib.Omega.{arith}
 use borrow.Author.Fill.{fill_more, fill_none}
-use borrow.Author.Rules.{rules}
-use lib.ListN.{drop, length, length-set, replicate}
+use lib.ListN.{length-set}
 use Rattle.tree.proofs.Laws.{filled}
 use Rattle.tree.proofs.inner.clear.Goals as goal
 

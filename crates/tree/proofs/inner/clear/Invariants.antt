@@ -1,11 +1,7 @@
-use Prim.Native.Nat.{◌≤◌, ◌-◌, zero-le}
+use Prim.Native.Nat.{◌≤◌, ◌-◌}
 use mathlib.Core.List.{◌++◌}
-use mathlib.Core.Path.{◌≡◌, refl}
-use native.Mathlib.Omega.{arith}
-use borrow.Author.Fill.{fill_more, fill_none}
-use borrow.Author.Rules.{rules}
-use lib.ListN.{drop, length, length-set, replicate}
-use Rattle.tree.proofs.Laws.{filled}
+use mathlib.Core.Path.{◌≡◌}
+use lib.ListN.{drop, length, replicate}
 use Rattle.tree.proofs.inner.clear.Given as goal
 
 abbrev pub invariant-loop-i : goal.invariant-loop-i

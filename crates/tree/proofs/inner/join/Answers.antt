@@ -1,5 +1,4 @@
 use native.Mathlib.Omega.{arith}
-use borrow.Author.Rules.{rules}
 use Rattle.rules.specs.Nets.{cell}
 use Rattle.tree.proofs.Joins.{joined-new, joined_same, joined_short}
 use Rattle.tree.proofs.inner.join.Goals as goal

@@ -1,7 +1,6 @@
 use Prim.Native.Nat.{ℕ, ◌<◌}
 use mathlib.Core.Path.{◌≡◌, ap, ◌∙◌}
 use native.Mathlib.Omega.{arith}
-use borrow.Author.Rules.{rules}
 use lib.ListN.{get_or, length}
 use Rattle.rules.specs.Bounds.{node_run}
 use Rattle.tree.proofs.Forms.{lone, too_high, tree_ends, tree-run}

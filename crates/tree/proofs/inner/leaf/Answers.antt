@@ -1,5 +1,4 @@
 use native.Mathlib.Omega.{arith}
-use borrow.Author.Rules.{rules}
 use lib.ListN.{length-take, take}
 use Rattle.tree.proofs.Grows.{leaf_built, leaf_short}
 use Rattle.tree.proofs.inner.leaf.Goals as goal

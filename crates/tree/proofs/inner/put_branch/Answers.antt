@@ -1,6 +1,5 @@
 use mathlib.Core.Path.{sym}
 use native.Mathlib.Omega.{arith}
-use borrow.Author.Rules.{rules}
 use lib.ListN.{length-set}
 use lib.Seq.{length_front, length-take-le}
 use Rattle.rules.specs.Bounds.{node_run}

@@ -1,13 +1,9 @@
-use Prim.Native.Nat.{ℕ, ◌≤◌, ◌-◌, ◌+◌}
-use mathlib.Core.List.{List, ◌++◌, map}
-use mathlib.Core.Path.{◌≡◌, refl, sym, ap, ◌∙◌}
-use native.Mathlib.Omega.{arith}
-use borrow.Author.Rules.{rules}
-use lib.ListN.{drop, length, length-set, set}
-use lib.Seq.{length_front, length-take-le, paste, paste-zero}
-use Rattle.rules.specs.Bounds.{node_run, rules_max}
+use Prim.Native.Nat.{◌≤◌, ◌-◌}
+use mathlib.Core.List.{map}
+use mathlib.Core.Path.{◌≡◌}
+use lib.ListN.{length}
+use lib.Seq.{paste}
 use Rattle.rules.specs.Nets.{number}
-use Rattle.tree.proofs.Laws.{leaf_done, leaf_turn}
 use Rattle.tree.proofs.inner.put_leaf.Given as goal
 
 abbrev pub invariant-loop-i : goal.invariant-loop-i

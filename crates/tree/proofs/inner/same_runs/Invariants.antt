@@ -1,11 +1,6 @@
 use Prim.Native.Nat.{ℕ, ◌≤◌, ◌<◌, ◌-◌, ◌+◌}
-use mathlib.Core.Bool.{true≢false}
-use mathlib.Core.Path.{◌≡◌, sym}
-use native.Mathlib.Omega.{arith}
-use borrow.Author.Count.{below_more}
-use borrow.Author.Rules.{rules}
+use mathlib.Core.Path.{◌≡◌}
 use lib.ListN.{get_or}
-use Rattle.tree.proofs.Laws.{runs-all, runs-at, runs_long}
 use Rattle.tree.proofs.inner.same_runs.Given as goal
 
 abbrev pub invariant-loop-i : goal.invariant-loop-i

@@ -1,12 +1,10 @@
-use Prim.Native.Nat.{ℕ, ◌≤◌, ◌-◌, ◌*◌, ◌/◌}
+use Prim.Native.Nat.{ℕ, ◌*◌, ◌/◌}
 use mathlib.Core.List.{List}
-use mathlib.Core.Path.{◌≡◌, sym, ◌∙◌}
+use mathlib.Core.Path.{sym, ◌∙◌}
 use native.Mathlib.Omega.{arith}
-use borrow.Author.Rules.{rules}
 use lib.ListN.{drop, length}
 use Rattle.rules.specs.Bounds.{node_run}
 use Rattle.tree.proofs.Tested.{none_end, none_more, none_start, none_stop}
-use Rattle.tree.specs.Form.{none_tests}
 use Rattle.tree.proofs.inner.untested.Goals as goal
 
 pub loop-i-init : goal.loop-i-init

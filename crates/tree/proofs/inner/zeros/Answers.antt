@@ -1,10 +1,9 @@
-use Prim.Native.Nat.{ℕ, ◌≤◌, ◌<◌, ◌-◌}
+use Prim.Native.Nat.{ℕ}
 use mathlib.Core.Bool.{true≢false}
 use mathlib.Core.Path.{◌≡◌, sym}
 use native.Mathlib.Omega.{arith}
 use borrow.Author.Count.{below_more}
-use borrow.Author.Rules.{rules}
-use lib.ListN.{get_or, length}
+use lib.ListN.{get_or}
 use Rattle.tree.proofs.Laws.{zeros_all, zeros_not}
 use Rattle.tree.proofs.inner.zeros.Goals as goal
 

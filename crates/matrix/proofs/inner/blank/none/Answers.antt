@@ -3,7 +3,6 @@ use mathlib.Core.Path.{ap}
 use Rattle.lists.specs.Vec.{vec}
 use Rattle.rows.specs.declared.Row.{Row}
 use Rattle.rules.specs.Bounds.{columns_max, rows_max}
-use borrow.Author.Rules.{rules}
 use Rattle.matrix.proofs.inner.blank.none.Goals as goal
 
 pub returns : goal.returns

@@ -1,4 +1,3 @@
-use borrow.Author.Rules.{rules}
 use mathlib.Core.Path.{ap, refl}
 use Rattle.matrix.proofs.Views.{matrix_path}
 use Rattle.matrix.specs.declared.Matrix.{Matrix}

@@ -1,10 +1,7 @@
 use borrow.Author.Rules.{rules}
-use lib.ListN.{length, take}
 use lib.Seq.{take_all}
-use mathlib.Core.Path.{◌≡◌}
 use native.Mathlib.Omega.{arith}
-use Prim.Native.Nat.{◌-◌, ◌≤◌}
-use Rattle.lists.specs.Vec.{fill, vec, vec_none}
+use Rattle.lists.specs.Vec.{fill, vec_none}
 use Rattle.rules.specs.Bounds.{columns_max}
 use Rattle.matrix.proofs.inner.build.pattern_of.Goals as goal
 

@@ -1,4 +1,3 @@
-use borrow.Author.Rules.{rules}
 use Rattle.matrix.proofs.Calls.{push_made}
 use Rattle.matrix.proofs.inner.build.push.Goals as goal
 

@@ -1,4 +1,3 @@
-use borrow.Author.Rules.{rules}
 use mathlib.Core.Path.{refl}
 use Rattle.matrix.proofs.StepLaws.{row_path}
 use Rattle.matrix.proofs.inner.build.row.Goals as goal

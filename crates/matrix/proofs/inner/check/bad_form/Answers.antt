@@ -1,4 +1,3 @@
-use borrow.Author.Rules.{rules}
 use borrow.Author.Tests.{not-false, not-true}
 use mathlib.Core.Bool.{not}
 use mathlib.Core.Path.{◌∙◌, ap, sym}

@@ -1,4 +1,3 @@
-use borrow.Author.Rules.{rules}
 use mathlib.Core.Path.{◌∙◌, ap}
 use Rattle.matrix.proofs.Checks.{table}
 use Rattle.matrix.specs.declared.Faults.{Faults}

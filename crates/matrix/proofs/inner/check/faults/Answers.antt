@@ -1,4 +1,3 @@
-use borrow.Author.Rules.{rules}
 use Rattle.matrix.proofs.Checks.{faults_path}
 use Rattle.matrix.proofs.inner.check.faults.Goals as goal
 

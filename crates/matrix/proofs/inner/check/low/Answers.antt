@@ -1,14 +1,13 @@
 use borrow.Author.Rules.{rules}
-use lib.ListN.{drop, length, take}
+use lib.ListN.{take}
 use lib.Seq.{length-take-le}
 use mathlib.Core.Bool.{not}
-use mathlib.Core.Path.{◌∙◌, ◌≡◌, ap, refl, sym}
+use mathlib.Core.Path.{◌∙◌, ap, refl, sym}
 use native.Mathlib.Omega.{arith}
-use Prim.Native.Nat.{◌-◌, ◌≤◌, ℕ}
+use Prim.Native.Nat.{ℕ}
 use Rattle.lists.specs.Lists.{rest-done}
 use Rattle.matrix.proofs.Checks.{used_more, used_stop}
 use Rattle.rules.specs.Nets.{over}
-use Rattle.rules.specs.Refusals.{all_low}
 use Rattle.matrix.proofs.inner.check.low.Goals as goal
 
 pub loop-i-init : goal.loop-i-init

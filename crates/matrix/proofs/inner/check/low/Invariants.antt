@@ -1,13 +1,6 @@
-use borrow.Author.Rules.{rules}
 use lib.ListN.{drop, length, take}
-use lib.Seq.{length-take-le}
-use mathlib.Core.Bool.{not}
-use mathlib.Core.Path.{◌∙◌, ◌≡◌, ap, refl, sym}
-use native.Mathlib.Omega.{arith}
-use Prim.Native.Nat.{◌-◌, ◌≤◌, ℕ}
-use Rattle.lists.specs.Lists.{rest-done}
-use Rattle.matrix.proofs.Checks.{used_more, used_stop}
-use Rattle.rules.specs.Nets.{over}
+use mathlib.Core.Path.{◌≡◌}
+use Prim.Native.Nat.{◌-◌, ◌≤◌}
 use Rattle.rules.specs.Refusals.{all_low}
 use Rattle.matrix.proofs.inner.check.low.Given as goal
 

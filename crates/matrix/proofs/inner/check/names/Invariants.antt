@@ -1,13 +1,8 @@
-use borrow.Author.Rules.{rules}
-use borrow.Author.Tests.{not-false, not-true}
 use lib.ListN.{drop, length}
-use mathlib.Core.Path.{◌∙◌, ◌≡◌, refl, sym}
-use native.Mathlib.Omega.{arith}
+use mathlib.Core.Path.{◌≡◌}
 use Prim.Native.Nat.{◌-◌, ◌≤◌}
-use Rattle.lists.specs.Lists.{all, rest-done, rest_more, rest_stop}
+use Rattle.lists.specs.Lists.{all}
 use Rattle.rules.specs.Nets.{is_name}
-use Rattle.std.proofs.Common.{ap}
-use Rattle.std.proofs.Common.{not}
 use Rattle.matrix.proofs.inner.check.names.Given as goal
 
 abbrev pub invariant-loop-i : goal.invariant-loop-i

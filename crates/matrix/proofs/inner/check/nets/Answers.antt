@@ -1,11 +1,10 @@
 use borrow.Author.Rules.{rules}
 use borrow.Author.Tests.{not-false, not-true}
-use lib.ListN.{drop, length, take}
+use lib.ListN.{take}
 use lib.Seq.{length-take-le}
-use mathlib.Core.Path.{◌∙◌, ◌≡◌, refl, sym}
+use mathlib.Core.Path.{◌∙◌, refl, sym}
 use native.Mathlib.Omega.{arith}
-use Prim.Native.Nat.{◌-◌, ◌≤◌}
-use Rattle.lists.specs.Lists.{all, rest-done}
+use Rattle.lists.specs.Lists.{rest-done}
 use Rattle.matrix.proofs.Checks.{used_more, used_stop}
 use Rattle.rules.specs.Nets.{is_net}
 use Rattle.std.proofs.Common.{ap}

@@ -1,4 +1,3 @@
-
 use Rattle.matrix.proofs.inner.check.number.Goals as goal
 
 pub returns-then-form : goal.returns-then-form

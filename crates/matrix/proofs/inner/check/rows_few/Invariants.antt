@@ -1,12 +1,7 @@
-use borrow.Author.Rules.{rules}
-use borrow.Author.Tests.{le-leb, lt-leb}
 use lib.ListN.{drop, length, take}
-use mathlib.Core.Path.{◌∙◌, ◌≡◌, refl, sym}
-use native.Mathlib.Omega.{arith}
+use mathlib.Core.Path.{◌≡◌}
 use Prim.Native.Nat.{◌-◌, ◌≤◌}
-use Rattle.lists.specs.Lists.{all, rest-done}
-use Rattle.matrix.proofs.Checks.{used_more, used_stop}
-use Rattle.matrix.proofs.StepHeld.{past}
+use Rattle.lists.specs.Lists.{all}
 use Rattle.matrix.specs.Faults.{few}
 use Rattle.rules.specs.Bounds.{rows_max}
 use Rattle.matrix.proofs.inner.check.rows_few.Given as goal

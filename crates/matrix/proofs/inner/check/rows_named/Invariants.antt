@@ -1,16 +1,9 @@
-use borrow.Author.Rules.{rules}
-use borrow.Author.Tests.{not-false, not-true}
 use lib.ListN.{drop, length, take}
-use mathlib.Core.Path.{◌∙◌, ◌≡◌, refl, sym}
-use native.Mathlib.Omega.{arith}
+use mathlib.Core.Path.{◌≡◌}
 use Prim.Native.Nat.{◌-◌, ◌≤◌}
-use Rattle.lists.specs.Lists.{all, rest-done}
-use Rattle.matrix.proofs.Checks.{used_more, used_stop}
-use Rattle.matrix.proofs.StepHeld.{past}
+use Rattle.lists.specs.Lists.{all}
 use Rattle.matrix.specs.Faults.{named}
 use Rattle.rules.specs.Bounds.{rows_max}
-use Rattle.std.proofs.Common.{ap}
-use Rattle.std.proofs.Common.{not}
 use Rattle.matrix.proofs.inner.check.rows_named.Given as goal
 
 abbrev pub invariant-loop-i : goal.invariant-loop-i

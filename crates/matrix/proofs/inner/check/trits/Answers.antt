@@ -1,10 +1,8 @@
 use borrow.Author.Rules.{rules}
 use borrow.Author.Tests.{le-ltb, lt-ltb}
-use lib.ListN.{drop, length}
-use mathlib.Core.Path.{◌∙◌, ◌≡◌, refl, sym}
+use mathlib.Core.Path.{◌∙◌, refl, sym}
 use native.Mathlib.Omega.{arith}
-use Prim.Native.Nat.{◌-◌, ◌≤◌}
-use Rattle.lists.specs.Lists.{all, rest-done, rest_more, rest_stop}
+use Rattle.lists.specs.Lists.{rest-done, rest_more, rest_stop}
 use Rattle.rules.specs.Trits.{is_trit}
 use Rattle.matrix.proofs.inner.check.trits.Goals as goal
 

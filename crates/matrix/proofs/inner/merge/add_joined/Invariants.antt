@@ -1,12 +1,9 @@
-use borrow.Author.Rules.{rules}
 use lib.ListN.{take}
-use mathlib.Core.List.{◌++◌, append-nil, map}
-use mathlib.Core.Path.{◌∙◌, ◌≡◌, ap, refl, sym}
-use native.Mathlib.Omega.{arith}
-use Prim.Native.Nat.{◌+◌, ◌-◌, ◌≤◌, ℕ}
+use mathlib.Core.List.{◌++◌, map}
+use mathlib.Core.Path.{◌≡◌}
+use Prim.Native.Nat.{◌+◌, ◌-◌, ◌≤◌}
 use Rattle.lists.specs.Vec.{vec}
-use Rattle.matrix.proofs.MergeRows.{part-fits, part_turn, parts_are}
-use Rattle.matrix.proofs.StepHeld.{clean_held, row_tidy, zero_row}
+use Rattle.matrix.proofs.StepHeld.{zero_row}
 use Rattle.matrix.specs.Mat.{view}
 use Rattle.rows.specs.Rows as rows
 use Rattle.rows.specs.Rows.{row_from}

@@ -1,4 +1,3 @@
-use borrow.Author.Rules.{rules}
 use mathlib.Core.Path.{◌∙◌, sym}
 use Rattle.matrix.proofs.MergeRows.{named-fits, named_is, other_fits, other_is, other_room}
 use Rattle.matrix.proofs.inner.merge.add_row.Goals as goal

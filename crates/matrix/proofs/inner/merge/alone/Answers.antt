@@ -1,4 +1,3 @@
-use borrow.Author.Rules.{rules}
 use Rattle.matrix.proofs.MergeRows.{alone_is}
 use Rattle.matrix.proofs.inner.merge.alone.Goals as goal
 

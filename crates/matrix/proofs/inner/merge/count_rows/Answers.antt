@@ -1,12 +1,11 @@
 use borrow.Author.Rules.{rules}
-use lib.ListN.{drop, length}
+use lib.ListN.{drop}
 use mathlib.Core.Path.{◌∙◌, ◌≡◌, ap, sym}
 use native.Mathlib.Omega.{arith}
-use Prim.Native.Nat.{◌*◌, ◌+◌, ◌-◌, ◌≤◌, ℕ}
+use Prim.Native.Nat.{◌+◌, ℕ}
 use Rattle.matrix.proofs.Calls.{view-rows-length}
 use Rattle.matrix.proofs.MergeCount.{length-merge, shares, shares_end, shares_more}
 use Rattle.matrix.specs.Mat.{view}
-use Rattle.rules.specs.Bounds.{rows_max}
 use Rattle.matrix.proofs.inner.merge.count_rows.Goals as goal
 
 pub loop-i-init : goal.loop-i-init

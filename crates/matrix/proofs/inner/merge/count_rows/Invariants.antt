@@ -1,10 +1,7 @@
-use borrow.Author.Rules.{rules}
 use lib.ListN.{drop, length}
-use mathlib.Core.Path.{◌∙◌, ◌≡◌, ap, sym}
-use native.Mathlib.Omega.{arith}
-use Prim.Native.Nat.{◌*◌, ◌+◌, ◌-◌, ◌≤◌, ℕ}
-use Rattle.matrix.proofs.Calls.{view-rows-length}
-use Rattle.matrix.proofs.MergeCount.{length-merge, shares, shares_end, shares_more}
+use mathlib.Core.Path.{◌≡◌}
+use Prim.Native.Nat.{◌*◌, ◌+◌, ◌-◌, ◌≤◌}
+use Rattle.matrix.proofs.MergeCount.{shares}
 use Rattle.matrix.specs.Mat.{view}
 use Rattle.rules.specs.Bounds.{rows_max}
 use Rattle.matrix.proofs.inner.merge.count_rows.Given as goal

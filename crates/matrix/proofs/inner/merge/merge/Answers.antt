@@ -1,14 +1,7 @@
 use borrow.Author.Rules.{rules}
-use lib.ListN.{take}
-use mathlib.Core.List.{◌++◌}
-use mathlib.Core.Path.{◌≡◌}
 use native.Mathlib.Omega.{arith}
-use Prim.Native.Nat.{◌+◌, ◌-◌, ◌≤◌}
 use Rattle.matrix.proofs.MergeRows.{merged_clean, merged_end, merged-fits, merged_next, merged_start, merged_wide}
 use Rattle.matrix.proofs.StepHeld.{clean_tall, row_tidy}
-use Rattle.matrix.specs.Mat.{matrix_from, view}
-use Rattle.rules.specs.Bounds.{rows_max}
-use Rattle.rules.specs.Matrix.{merge_rows}
 use Rattle.matrix.proofs.inner.merge.merge.Goals as goal
 
 pub joined_nets-value-requires : goal.joined_nets-value-requires
@@ -18,12 +11,11 @@ pub overflow_add-made : goal.overflow_add-made
 overflow_add-made c = let w = merged_wide c.args.m c.args.child c.args.t c.requires.0 c.requires.1 c.requires.2 in search rules
 
 pub loop-i-init : goal.loop-i-init
-loop-i-init c =
-    (
-      search rules,
-      clean_tall c.args.m c.requires.0,
-      merged_start c.args.m c.args.child c.args.t c.requires.0 c.requires.1 c.requires.2 _ _ c.joined_nets-value.ensures c.blank.ensures,
-    )
+loop-i-init c = (
+  search rules,
+  clean_tall c.args.m c.requires.0,
+  merged_start c.args.m c.args.child c.args.t c.requires.0 c.requires.1 c.requires.2 _ _ c.joined_nets-value.ensures c.blank.ensures,
+)
 
 pub add_row-next-requires : goal.add_row-next-requires
 add_row-next-requires c =

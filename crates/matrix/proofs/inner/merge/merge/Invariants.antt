@@ -1,11 +1,7 @@
-use borrow.Author.Rules.{rules}
 use lib.ListN.{take}
 use mathlib.Core.List.{◌++◌}
 use mathlib.Core.Path.{◌≡◌}
-use native.Mathlib.Omega.{arith}
-use Prim.Native.Nat.{◌+◌, ◌-◌, ◌≤◌}
-use Rattle.matrix.proofs.MergeRows.{merged_clean, merged_end, merged-fits, merged_next, merged_start, merged_wide}
-use Rattle.matrix.proofs.StepHeld.{clean_tall, row_tidy}
+use Prim.Native.Nat.{◌-◌, ◌≤◌}
 use Rattle.matrix.specs.Mat.{matrix_from, view}
 use Rattle.rules.specs.Bounds.{rows_max}
 use Rattle.rules.specs.Matrix.{merge_rows}

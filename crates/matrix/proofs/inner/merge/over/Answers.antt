@@ -1,15 +1,12 @@
 use borrow.Author.Rules.{rules}
-use lib.ListN.{drop, length}
 use mathlib.Core.Bool.{not}
-use mathlib.Core.Path.{◌∙◌, ◌≡◌, ap, refl, sym}
+use mathlib.Core.Path.{◌∙◌, ap, refl, sym}
 use native.Mathlib.Omega.{arith}
-use Prim.Native.Nat.{◌-◌, ◌≤◌}
-use Rattle.lists.specs.Lists.{all, rest-done, rest_more, rest_stop}
+use Rattle.lists.specs.Lists.{rest-done, rest_more, rest_stop}
 use Rattle.matrix.proofs.Calls.{view-rows-length}
 use Rattle.matrix.proofs.MergeCount.{few_with, with-few, with_many}
 use Rattle.matrix.proofs.StepHeld.{none_row}
 use Rattle.matrix.specs.Mat.{view}
-use Rattle.rules.specs.Bounds.{rows_max}
 use Rattle.sets.specs.Sets.{list_of}
 use Rattle.matrix.proofs.inner.merge.over.Goals as goal
 

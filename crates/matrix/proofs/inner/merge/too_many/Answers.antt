@@ -1,16 +1,11 @@
 use borrow.Author.Rules.{rules}
 use borrow.Author.Tests.{not-false, not-true}
-use lib.ListN.{drop, length}
 use mathlib.Core.Bool.{not}
-use mathlib.Core.Path.{◌∙◌, ◌≡◌, ap, refl, sym}
+use mathlib.Core.Path.{◌∙◌, ap, refl, sym}
 use native.Mathlib.Omega.{arith}
-use Prim.Native.Nat.{◌-◌, ◌≤◌}
-use Rattle.lists.specs.Lists.{all}
 use Rattle.matrix.proofs.Calls.{view-rows-length}
-use Rattle.matrix.proofs.MergeCount.{few, many_end, many_more, many_stop}
+use Rattle.matrix.proofs.MergeCount.{many_end, many_more, many_stop}
 use Rattle.matrix.specs.Mat.{view}
-use Rattle.rules.specs.Bounds.{rows_max}
-use Rattle.rules.specs.Matrix.{merge_rows}
 use Rattle.matrix.proofs.inner.merge.too_many.Goals as goal
 
 pub loop-i-init : goal.loop-i-init

@@ -1,13 +1,8 @@
-use borrow.Author.Rules.{rules}
-use borrow.Author.Tests.{not-false, not-true}
 use lib.ListN.{drop, length}
-use mathlib.Core.Bool.{not}
-use mathlib.Core.Path.{◌∙◌, ◌≡◌, ap, refl, sym}
-use native.Mathlib.Omega.{arith}
+use mathlib.Core.Path.{◌≡◌}
 use Prim.Native.Nat.{◌-◌, ◌≤◌}
 use Rattle.lists.specs.Lists.{all}
-use Rattle.matrix.proofs.Calls.{view-rows-length}
-use Rattle.matrix.proofs.MergeCount.{few, many_end, many_more, many_stop}
+use Rattle.matrix.proofs.MergeCount.{few}
 use Rattle.matrix.specs.Mat.{view}
 use Rattle.rules.specs.Bounds.{rows_max}
 use Rattle.rules.specs.Matrix.{merge_rows}

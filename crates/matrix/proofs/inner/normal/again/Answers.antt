@@ -1,4 +1,3 @@
-use borrow.Author.Rules.{rules}
 use borrow.Author.Tests.{not-false, not-true}
 use mathlib.Core.Path.{◌∙◌, sym}
 use Rattle.std.proofs.Common.{ap}

@@ -1,14 +1,11 @@
 use borrow.Author.Rules.{rules}
 use lib.ListN.{length, take}
 use lib.Seq.{get_or-take, length-take-le}
-use mathlib.Core.Bool.{false}
 use mathlib.Core.Path.{◌∙◌, ◌≡◌, refl, sym}
 use native.Mathlib.Omega.{arith}
-use Prim.Native.Nat.{◌-◌, ◌≤◌}
 use Rattle.lists.specs.Vec.{vec}
 use Rattle.matrix.proofs.NormalFlags.{flags_end, flags_turn, gone_at, gone_by}
 use Rattle.rows.proofs.Walked.{first_is}
-use Rattle.rows.specs.Rows.{flags}
 use Rattle.rules.specs.Bounds.{columns_max}
 use Rattle.matrix.proofs.inner.normal.gone.Goals as goal
 

@@ -1,13 +1,9 @@
-use borrow.Author.Rules.{rules}
-use lib.ListN.{length, take}
-use lib.Seq.{get_or-take, length-take-le}
+use lib.ListN.{take}
 use mathlib.Core.Bool.{false}
-use mathlib.Core.Path.{◌∙◌, ◌≡◌, refl, sym}
-use native.Mathlib.Omega.{arith}
+use mathlib.Core.Path.{◌≡◌}
 use Prim.Native.Nat.{◌-◌, ◌≤◌}
 use Rattle.lists.specs.Vec.{vec}
-use Rattle.matrix.proofs.NormalFlags.{flags_end, flags_turn, gone_at, gone_by}
-use Rattle.rows.proofs.Walked.{first_is}
+use Rattle.matrix.proofs.NormalFlags.{gone_by}
 use Rattle.rows.specs.Rows.{flags}
 use Rattle.rules.specs.Bounds.{columns_max}
 use Rattle.matrix.proofs.inner.normal.gone.Given as goal

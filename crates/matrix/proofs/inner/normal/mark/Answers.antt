@@ -4,10 +4,9 @@ use lib.Seq.{get_or-take, length-take-le}
 use mathlib.Core.Bool.{◌||◌, false, not}
 use mathlib.Core.Path.{◌∙◌, ◌≡◌, ap, refl, sym}
 use native.Mathlib.Omega.{arith}
-use Prim.Native.Nat.{◌-◌, ◌≤◌, ℕ}
+use Prim.Native.Nat.{ℕ}
 use Rattle.lists.specs.Vec.{vec}
 use Rattle.matrix.proofs.NormalFlags.{flags_end, flags_turn}
-use Rattle.rows.specs.Rows.{flags}
 use Rattle.rules.specs.Bounds.{columns_max}
 use Rattle.rules.specs.Trits.{is_x}
 use Rattle.matrix.proofs.inner.normal.mark.Goals as goal

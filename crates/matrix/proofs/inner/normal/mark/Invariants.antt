@@ -1,12 +1,8 @@
-use borrow.Author.Rules.{rules}
-use lib.ListN.{get_or, length, take}
-use lib.Seq.{get_or-take, length-take-le}
+use lib.ListN.{get_or, take}
 use mathlib.Core.Bool.{◌||◌, false, not}
-use mathlib.Core.Path.{◌∙◌, ◌≡◌, ap, refl, sym}
-use native.Mathlib.Omega.{arith}
+use mathlib.Core.Path.{◌≡◌}
 use Prim.Native.Nat.{◌-◌, ◌≤◌, ℕ}
 use Rattle.lists.specs.Vec.{vec}
-use Rattle.matrix.proofs.NormalFlags.{flags_end, flags_turn}
 use Rattle.rows.specs.Rows.{flags}
 use Rattle.rules.specs.Bounds.{columns_max}
 use Rattle.rules.specs.Trits.{is_x}

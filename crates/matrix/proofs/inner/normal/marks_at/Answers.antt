@@ -1,4 +1,3 @@
-
 use Rattle.matrix.proofs.inner.normal.marks_at.Goals as goal
 
 pub returns-then-used : goal.returns-then-used

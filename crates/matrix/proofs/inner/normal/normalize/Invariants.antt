@@ -1,20 +1,12 @@
-use borrow.Author.Rules.{rules}
-use borrow.Author.Tests.{not-false, not-true}
 use lib.ListN.{drop, take}
-use mathlib.Core.Bool.{cond, false}
+use mathlib.Core.Bool.{cond}
 use mathlib.Core.Option.{none, some}
-use mathlib.Core.Path.{◌∙◌, ◌≡◌, ap, refl, sym}
-use native.Mathlib.Omega.{arith}
+use mathlib.Core.Path.{◌≡◌}
 use Prim.Native.Nat.{◌-◌, ◌≤◌}
-use Rattle.lists.specs.Vec.{vec, vec_none}
-use Rattle.matrix.proofs.NormalFlags.{gone_is}
-use Rattle.matrix.proofs.NormalMade.{normal_is, settled_clean}
-use Rattle.matrix.proofs.NormalRows.{columns-marked, rows_settled, Sofar, sofar_start, turn_again, turn_clean, turn_gone, turn_stays}
-use Rattle.matrix.proofs.StepHeld.{clean_tall, clean_wide}
+use Rattle.matrix.proofs.NormalRows.{Sofar}
 use Rattle.matrix.specs.Mat.{view}
 use Rattle.rules.specs.Bounds.{columns_max, rows_max}
 use Rattle.rules.specs.Steps.{walk_rows}
-use Rattle.std.proofs.Common.{not}
 use Rattle.matrix.proofs.inner.normal.normalize.Given as goal
 
 abbrev pub invariant-loop-j : goal.invariant-loop-j

@@ -1,14 +1,14 @@
 use borrow.Author.Rules.{rules}
-use lib.ListN.{get_or, length, length-map}
+use lib.ListN.{get_or, length}
 use mathlib.Core.List.{List}
 use mathlib.Core.Path.{◌≡◌, ap, refl}
 use native.Mathlib.Omega.{arith}
-use Prim.Native.Nat.{◌-◌, ◌≤◌, ℕ}
-use Rattle.lists.specs.Lists.{map_turn, map_to}
+use Prim.Native.Nat.{ℕ}
+use Rattle.lists.specs.Lists.{map_turn}
 use Rattle.matrix.proofs.NormalRows.{kept_slot, stripped}
 use Rattle.matrix.proofs.StepHeld.{clean_tall, clean_wide, past}
 use Rattle.rows.specs.declared.Row.{Row}
-use Rattle.rules.specs.Bounds.{columns_max, rows_max}
+use Rattle.rules.specs.Bounds.{rows_max}
 use Rattle.matrix.proofs.inner.normal.strip_rows.Goals as goal
 
 pub strip_nets-stay-requires : goal.strip_nets-stay-requires

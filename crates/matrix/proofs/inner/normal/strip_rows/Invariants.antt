@@ -1,13 +1,7 @@
-use borrow.Author.Rules.{rules}
-use lib.ListN.{get_or, length, length-map}
-use mathlib.Core.List.{List}
-use mathlib.Core.Path.{◌≡◌, ap, refl}
-use native.Mathlib.Omega.{arith}
-use Prim.Native.Nat.{◌-◌, ◌≤◌, ℕ}
-use Rattle.lists.specs.Lists.{map_turn, map_to}
-use Rattle.matrix.proofs.NormalRows.{kept_slot, stripped}
-use Rattle.matrix.proofs.StepHeld.{clean_tall, clean_wide, past}
-use Rattle.rows.specs.declared.Row.{Row}
+use mathlib.Core.Path.{◌≡◌}
+use Prim.Native.Nat.{◌-◌, ◌≤◌}
+use Rattle.lists.specs.Lists.{map_to}
+use Rattle.matrix.proofs.NormalRows.{kept_slot}
 use Rattle.rules.specs.Bounds.{columns_max, rows_max}
 use Rattle.matrix.proofs.inner.normal.strip_rows.Given as goal
 

@@ -1,4 +1,3 @@
-use borrow.Author.Rules.{rules}
 use lib.Seq.{take-length}
 use mathlib.Core.Path.{sym}
 use Rattle.matrix.proofs.Calls.{full_is}

@@ -1,4 +1,3 @@
-use borrow.Author.Rules.{rules}
 use mathlib.Core.Path.{sym}
 use Rattle.matrix.proofs.CallSteps.{enable_tall, enable_wide}
 use Rattle.matrix.proofs.inner.numbers.add_enable.Goals as goal

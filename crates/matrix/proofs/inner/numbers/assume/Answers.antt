@@ -1,4 +1,3 @@
-use borrow.Author.Rules.{rules}
 use Rattle.matrix.proofs.inner.numbers.assume.Goals as goal
 
 pub returns : goal.returns

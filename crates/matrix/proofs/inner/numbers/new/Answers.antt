@@ -1,4 +1,3 @@
-use borrow.Author.Rules.{rules}
 use lib.Seq.{take-length}
 use Rattle.matrix.proofs.inner.numbers.new.Goals as goal
 

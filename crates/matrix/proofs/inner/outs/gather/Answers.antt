@@ -1,12 +1,9 @@
-use borrow.Author.Rules.{rules}
-use lib.ListN.{drop, get_or, length, length-take, take}
+use lib.ListN.{get_or, length, length-take, take}
 use mathlib.Core.Path.{◌≡◌, refl}
 use native.Mathlib.Omega.{arith}
-use Prim.Native.Nat.{◌+◌, ◌-◌, ◌≤◌}
-use Rattle.lists.specs.Vec.{vec}
+use Prim.Native.Nat.{◌-◌, ◌≤◌}
 use Rattle.matrix.proofs.CallOuts.{gather_room, gather_start, outputs_path}
-use Rattle.rules.specs.Bounds.{outputs_max, rules_max}
-use Rattle.rules.specs.Matrix.{union}
+use Rattle.rules.specs.Bounds.{outputs_max}
 use Rattle.sets.proofs.Laws.{slot}
 use Rattle.sets.proofs.Unions.{inserted_turn, vec_long}
 use Rattle.sets.specs.Sets.{list_of}

@@ -1,14 +1,9 @@
-use borrow.Author.Rules.{rules}
-use lib.ListN.{drop, get_or, length, length-take, take}
-use mathlib.Core.Path.{◌≡◌, refl}
-use native.Mathlib.Omega.{arith}
-use Prim.Native.Nat.{◌+◌, ◌-◌, ◌≤◌}
+use lib.ListN.{drop, length, take}
+use mathlib.Core.Path.{◌≡◌}
+use Prim.Native.Nat.{◌+◌, ◌≤◌}
 use Rattle.lists.specs.Vec.{vec}
-use Rattle.matrix.proofs.CallOuts.{gather_room, gather_start, outputs_path}
 use Rattle.rules.specs.Bounds.{outputs_max, rules_max}
 use Rattle.rules.specs.Matrix.{union}
-use Rattle.sets.proofs.Laws.{slot}
-use Rattle.sets.proofs.Unions.{inserted_turn, vec_long}
 use Rattle.sets.specs.Sets.{list_of}
 use Rattle.matrix.proofs.inner.outs.gather.Given as goal
 

@@ -1,4 +1,3 @@
-use borrow.Author.Rules.{rules}
 use mathlib.Core.Path.{refl}
 use Rattle.matrix.proofs.CallOuts.{outputs_path}
 use Rattle.matrix.proofs.inner.outs.none.Goals as goal

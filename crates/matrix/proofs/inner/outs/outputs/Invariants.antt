@@ -1,15 +1,8 @@
-use borrow.Author.Rules.{rules}
-use lib.ListN.{drop, length, length-map, take}
-use lib.Seq.{length-take-le}
+use lib.ListN.{drop, length}
 use mathlib.Core.Path.{◌≡◌}
-use native.Mathlib.Omega.{arith}
 use Prim.Native.Nat.{◌≤◌}
-use Rattle.matrix.proofs.CallOuts.{in_use, outs_asks, outs_end, outs_start, outs_turn}
-use Rattle.matrix.proofs.Tidies.{fits_count, fits_sized}
-use Rattle.matrix.proofs.TidySlots.{rows_long, slots}
-use Rattle.matrix.specs.Mat.{view}
+use Rattle.matrix.proofs.CallOuts.{in_use}
 use Rattle.matrix.specs.Outs.{outputs_from}
-use Rattle.rows.specs.Rows as rows
 use Rattle.rules.specs.Bounds.{rows_max}
 use Rattle.rules.specs.Matrix.{outputs_of}
 use Rattle.rules.specs.Refuse.{done}

@@ -2,7 +2,7 @@ use borrow.Author.Rules.{rules}
 use lib.ListN.{length}
 use mathlib.Core.Path.{◌∙◌, ◌≡◌, ap₂, refl}
 use native.Mathlib.Omega.{arith}
-use Prim.Native.Nat.{◌-◌, ◌≤◌, ℕ}
+use Prim.Native.Nat.{ℕ}
 use Rattle.lists.specs.Lists.{map_turn, map_to}
 use Rattle.rules.specs.Bounds.{columns_max}
 use Rattle.rules.specs.Matrix.{swap}

@@ -1,9 +1,6 @@
-use borrow.Author.Rules.{rules}
-use lib.ListN.{length}
-use mathlib.Core.Path.{◌∙◌, ◌≡◌, ap₂, refl}
-use native.Mathlib.Omega.{arith}
-use Prim.Native.Nat.{◌-◌, ◌≤◌, ℕ}
-use Rattle.lists.specs.Lists.{map_turn, map_to}
+use mathlib.Core.Path.{◌≡◌}
+use Prim.Native.Nat.{◌-◌, ◌≤◌}
+use Rattle.lists.specs.Lists.{map_to}
 use Rattle.rules.specs.Bounds.{columns_max}
 use Rattle.rules.specs.Matrix.{swap}
 use Rattle.matrix.proofs.inner.step.assume_nets.Given as goal

@@ -1,12 +1,9 @@
-use borrow.Author.Rules.{rules}
 use lib.ListN.{take}
 use mathlib.Core.List.{◌∷◌, map}
-use mathlib.Core.Path.{◌≡◌, refl}
-use native.Mathlib.Omega.{arith}
+use mathlib.Core.Path.{◌≡◌}
 use Prim.Native.Nat.{◌+◌, ◌-◌, ◌<◌, ◌≤◌}
 use Rattle.lists.specs.Vec.{vec}
-use Rattle.matrix.proofs.StepHeld.{row_long, row_tidy, zero_row}
-use Rattle.matrix.proofs.StepLaws.{enabled_first, enabled_is, enabled_start, enabled_turn}
+use Rattle.matrix.proofs.StepHeld.{zero_row}
 use Rattle.matrix.specs.Mat.{view}
 use Rattle.rows.specs.Rows.{row_from}
 use Rattle.rules.specs.Bounds.{columns_max, rows_max}

@@ -1,4 +1,3 @@
-use borrow.Author.Rules.{rules}
 use Rattle.matrix.proofs.StepLaws.{widened_is}
 use Rattle.matrix.proofs.inner.step.widened.Goals as goal
 

@@ -4,7 +4,6 @@ use lib.Seq.{length-take-le, take_all}
 use mathlib.Core.List.{List, map}
 use mathlib.Core.Path.{◌∙◌, ◌≡◌, ap, refl, sym}
 use native.Mathlib.Omega.{arith}
-use Prim.Native.Nat.{◌-◌, ◌≤◌}
 use Rattle.lists.specs.Vec.{vec}
 use Rattle.matrix.proofs.Checks.{rows_viewed}
 use Rattle.matrix.proofs.StepHeld.{zero_row}

@@ -1,11 +1,10 @@
-use Prim.Native.Nat.{◌-◌, ◌≤◌}
-use lib.ListN.{drop, get_or, length, length-map, take}
+use Prim.Native.Nat.{◌≤◌}
+use lib.ListN.{get_or, length, take}
 use lib.Seq.{length-take-le}
-use mathlib.Core.Path.{◌≡◌, sym, ◌∙◌}
+use mathlib.Core.Path.{◌≡◌}
 use native.Mathlib.Omega.{arith}
-use Rattle.print.proofs.Laws.{Todo, todo_all, todo_room, todo_more, todo_done, todo_as}
+use Rattle.print.proofs.Laws.{todo_all, todo_room, todo_more, todo_done, todo_as}
 use Rattle.print.proofs.Rows.{nothing, rest_end, rest_next, row_fits}
-use Rattle.print.specs.Texts.{rows_text}
 use Rattle.rows.specs.Rows.{view}
 use Rattle.rules.specs.Bounds.{rows_max}
 use Rattle.rules.specs.Print.{row_line}

@@ -1,4 +1,3 @@
-use borrow.Author.Rules.{rules}
 use mathlib.Core.Path.{ap, ◌∙◌}
 use Rattle.print.proofs.Numbers.{trit-cut}
 use Rattle.rules.specs.Print.{trit}

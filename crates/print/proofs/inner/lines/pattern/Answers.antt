@@ -1,11 +1,9 @@
-use Prim.Native.Nat.{◌-◌, ◌≤◌}
-use lib.ListN.{get_or, length, take}
-use mathlib.Core.List.{reverse}
+use Prim.Native.Nat.{◌-◌}
+use lib.ListN.{get_or, length}
 use native.Mathlib.Omega.{arith}
-use Rattle.print.proofs.Laws.{Todo, todo_all, todo_room, todo_more, todo_done, todo_as}
+use Rattle.print.proofs.Laws.{todo_all, todo_room, todo_more, todo_done, todo_as}
 use Rattle.print.proofs.Numbers.{marked-room, trits_end, trits_on, trits_start}
-use Rattle.print.specs.Texts.{marked, trits}
-use Rattle.rules.specs.Print.{grouped}
+use Rattle.print.specs.Texts.{marked}
 use Rattle.print.proofs.inner.lines.pattern.Goals as goal
 
 pub loop-i-init : goal.loop-i-init

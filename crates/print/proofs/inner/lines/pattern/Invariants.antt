@@ -1,10 +1,8 @@
 use Prim.Native.Nat.{◌-◌, ◌≤◌}
-use lib.ListN.{get_or, length, take}
+use lib.ListN.{length, take}
 use mathlib.Core.List.{reverse}
-use native.Mathlib.Omega.{arith}
-use Rattle.print.proofs.Laws.{Todo, todo_all, todo_room, todo_more, todo_done, todo_as}
-use Rattle.print.proofs.Numbers.{marked-room, trits_end, trits_on, trits_start}
-use Rattle.print.specs.Texts.{marked, trits}
+use Rattle.print.proofs.Laws.{Todo}
+use Rattle.print.specs.Texts.{trits}
 use Rattle.rules.specs.Print.{grouped}
 use Rattle.print.proofs.inner.lines.pattern.Given as goal
 

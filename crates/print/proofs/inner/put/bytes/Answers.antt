@@ -1,9 +1,7 @@
-use Prim.Native.Nat.{◌-◌, ◌≤◌}
 use borrow.Author.Rules.{rules}
-use lib.ListN.{length, drop}
 use mathlib.Core.List.{[], ◌∷◌}
 use native.Mathlib.Omega.{arith}
-use Rattle.print.proofs.Laws.{Todo, todo_all, todo_room, todo_more, todo_done, todo_next, todo_last}
+use Rattle.print.proofs.Laws.{todo_all, todo_room, todo_more, todo_done, todo_next, todo_last}
 use Rattle.print.proofs.inner.put.bytes.Goals as goal
 
 pub loop-i-init : goal.loop-i-init

@@ -1,9 +1,8 @@
-use Prim.Native.Nat.{◌-◌, ◌≤◌}
-use lib.ListN.{length, take}
+use Prim.Native.Nat.{◌-◌}
 use lib.Seq.{take-length}
 use mathlib.Core.Path.{ap, sym}
 use native.Mathlib.Omega.{arith}
-use Rattle.print.proofs.Laws.{Todo, todo_all, todo_room, todo_more, todo_done, todo_as}
+use Rattle.print.proofs.Laws.{todo_all, todo_room, todo_more, todo_done, todo_as}
 use Rattle.print.proofs.Numbers.{downs_end, downs-take, low-at}
 use Rattle.print.specs.Texts.{downs, spaced}
 use Rattle.print.proofs.inner.put.downs.Goals as goal

@@ -1,10 +1,6 @@
 use Prim.Native.Nat.{◌-◌, ◌≤◌}
-use borrow.Author.Rules.{rules}
 use lib.ListN.{length, drop}
-use native.Mathlib.Omega.{arith}
-use Rattle.print.proofs.Laws.{Todo, todo_all, todo_room, todo_more, todo_done, todo_as}
-use Rattle.print.proofs.Numbers.{low-at, nets_next, nets_end}
-use Rattle.print.specs.Texts.{spaced}
+use Rattle.print.proofs.Laws.{Todo}
 use Rattle.rules.specs.Print.{nets}
 use Rattle.print.proofs.inner.put.nets.Given as goal
 

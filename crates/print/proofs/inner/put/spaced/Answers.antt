@@ -1,4 +1,3 @@
-use borrow.Author.Rules.{rules}
 use native.Mathlib.Omega.{arith}
 use Rattle.print.proofs.Laws.{put_then}
 use Rattle.print.specs.Texts.{spaced}

@@ -1,4 +1,3 @@
-use borrow.Author.Rules.{rules}
 use mathlib.Core.Path.{ap, sym}
 use Rattle.rules.specs.Codes.{trit_code}
 use Rattle.rules.specs.Print.{trit}

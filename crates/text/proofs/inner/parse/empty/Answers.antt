@@ -1,4 +1,3 @@
-use borrow.Author.Rules.{rules}
 use Rattle.rules.specs.Bytes.{bytes}
 use Rattle.rules.specs.Print.{rule_text}
 use Rattle.text.proofs.Values.{empty_is, empty_past}

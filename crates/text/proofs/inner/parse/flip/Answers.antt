@@ -1,10 +1,10 @@
-use Prim.Native.Nat.{◌-◌, ◌≤◌}
+use Prim.Native.Nat.{◌≤◌}
 use borrow.Author.Rules.{rules}
 use lib.ListN.{length, take}
 use mathlib.Core.List.{reverse}
 use mathlib.Core.Path.{◌≡◌}
 use native.Mathlib.Omega.{arith}
-use Rattle.lists.specs.Vec.{vec, vec_none}
+use Rattle.lists.specs.Vec.{vec_none}
 use Rattle.rules.specs.Bounds.{columns_max}
 use Rattle.text.proofs.Values.{fill_end, fill_turn, flip_at, flip_long}
 use Rattle.text.proofs.inner.parse.flip.Goals as goal

@@ -1,12 +1,9 @@
 use Prim.Native.Nat.{◌-◌, ◌≤◌}
-use borrow.Author.Rules.{rules}
-use lib.ListN.{length, take}
+use lib.ListN.{take}
 use mathlib.Core.List.{reverse}
 use mathlib.Core.Path.{◌≡◌}
-use native.Mathlib.Omega.{arith}
-use Rattle.lists.specs.Vec.{vec, vec_none}
+use Rattle.lists.specs.Vec.{vec}
 use Rattle.rules.specs.Bounds.{columns_max}
-use Rattle.text.proofs.Values.{fill_end, fill_turn, flip_at, flip_long}
 use Rattle.text.proofs.inner.parse.flip.Given as goal
 
 abbrev pub invariant-loop-i : goal.invariant-loop-i

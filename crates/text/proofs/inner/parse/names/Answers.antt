@@ -1,4 +1,3 @@
-use borrow.Author.Rules.{rules}
 use native.Mathlib.Omega.{arith}
 use Rattle.text.proofs.Values.{names-made, names_none}
 use Rattle.text.proofs.inner.parse.names.Goals as goal

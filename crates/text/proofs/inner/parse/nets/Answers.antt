@@ -1,4 +1,3 @@
-use borrow.Author.Rules.{rules}
 use lib.ListN.{replicate}
 use native.Mathlib.Omega.{arith}
 use Rattle.rules.specs.Bounds.{columns_max}

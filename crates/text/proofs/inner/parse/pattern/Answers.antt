@@ -1,8 +1,5 @@
-use Prim.Native.Nat.{◌-◌, ◌≤◌}
-use lib.ListN.{take}
-use mathlib.Core.Path.{◌≡◌}
 use native.Mathlib.Omega.{arith}
-use Rattle.lists.specs.Vec.{vec, vec_none}
+use Rattle.lists.specs.Vec.{vec_none}
 use Rattle.rules.specs.Bounds.{columns_max}
 use Rattle.text.proofs.RowsIn.{pattern_long}
 use Rattle.text.proofs.Values.{fill_end, fill_turn}

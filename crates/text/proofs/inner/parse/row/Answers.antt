@@ -1,4 +1,3 @@
-use borrow.Author.Rules.{rules}
 use borrow.Author.Tests.{not-false, not-true}
 use lib.Seq.{length-take-le}
 use mathlib.Core.Path.{sym, ◌∙◌}

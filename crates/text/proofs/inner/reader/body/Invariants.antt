@@ -1,8 +1,6 @@
 use Prim.Native.Nat.{◌-◌}
-use borrow.Author.Tests.{not-false, not-true}
 use lib.ListN.{length}
-use native.Mathlib.Omega.{arith}
-use Rattle.text.proofs.Reader.{Rowed, rowed_done, rowed_full, rowed_more, rowed_none, rowed_off}
+use Rattle.text.proofs.Reader.{Rowed}
 use Rattle.text.proofs.inner.reader.body.Given as goal
 
 abbrev pub invariant-loop-a : goal.invariant-loop-a

@@ -1,10 +1,6 @@
-use Prim.Native.Nat.{◌-◌, ◌≤◌}
-use lib.ListN.{length, take}
-use mathlib.Core.Bool.{true}
-use mathlib.Core.Path.{◌≡◌, refl}
+use mathlib.Core.Path.{refl}
 use native.Mathlib.Omega.{arith}
-use Rattle.lists.specs.Lists.{all}
-use Rattle.text.proofs.Reader.{cut_end, cut-lf, solid, solid_more}
+use Rattle.text.proofs.Reader.{cut_end, cut-lf, solid_more}
 use Rattle.text.proofs.inner.reader.end.Goals as goal
 
 pub loop-i-init : goal.loop-i-init

@@ -1,10 +1,9 @@
 use Prim.Native.Nat.{◌-◌, ◌≤◌}
 use lib.ListN.{length, take}
 use mathlib.Core.Bool.{true}
-use mathlib.Core.Path.{◌≡◌, refl}
-use native.Mathlib.Omega.{arith}
+use mathlib.Core.Path.{◌≡◌}
 use Rattle.lists.specs.Lists.{all}
-use Rattle.text.proofs.Reader.{cut_end, cut-lf, solid, solid_more}
+use Rattle.text.proofs.Reader.{solid}
 use Rattle.text.proofs.inner.reader.end.Given as goal
 
 abbrev pub invariant-loop-i : goal.invariant-loop-i

@@ -1,4 +1,3 @@
-use borrow.Author.Rules.{rules}
 use native.Mathlib.Omega.{arith}
 use Rattle.text.proofs.Reader.{cut_within, part_some, stepped}
 use Rattle.text.proofs.inner.reader.next.Goals as goal

@@ -1,4 +1,3 @@
-use borrow.Author.Rules.{rules}
 use mathlib.Core.Path.{ap}
 use Rattle.matrix.specs.declared.Matrix.{Matrix}
 use Rattle.rules.specs.Refuse.{LINE}

@@ -1,4 +1,3 @@
-use borrow.Author.Rules.{rules}
 use lib.ListN.{get_or-eq_default}
 use mathlib.Core.Path.{sym}
 use Rattle.text.proofs.inner.scan.byte.Goals as goal

@@ -1,4 +1,3 @@
-use borrow.Author.Rules.{rules}
 use Rattle.text.proofs.Scans.{cell_is_1, cell_is_2, cell_is_3, cell_is_4, cell_none}
 use Rattle.text.proofs.inner.scan.cell.Goals as goal
 

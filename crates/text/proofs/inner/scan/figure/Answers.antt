@@ -1,4 +1,3 @@
-use borrow.Author.Rules.{rules}
 use borrow.Author.Tests.{le-ltb, lt-ltb}
 use Rattle.text.specs.Scan.{figure_of}
 use Rattle.text.proofs.inner.scan.figure.Goals as goal

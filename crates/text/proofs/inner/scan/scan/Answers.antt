@@ -1,5 +1,5 @@
-use Prim.Native.Nat.{◌-◌, ◌+◌}
-use lib.ListN.{length, set}
+use Prim.Native.Nat.{◌+◌}
+use lib.ListN.{set}
 use mathlib.Core.Path.{sym, ap, subst, ◌∙◌}
 use native.Mathlib.Omega.{arith}
 use Rattle.text.proofs.Nets.{Sofar, sofar_full, sofar_more, sofar_none, sofar_stop}

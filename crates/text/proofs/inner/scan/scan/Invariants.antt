@@ -1,10 +1,6 @@
-use Prim.Native.Nat.{◌-◌, ◌+◌}
-use lib.ListN.{length, set}
-use mathlib.Core.Path.{sym, ap, subst, ◌∙◌}
-use native.Mathlib.Omega.{arith}
-use Rattle.text.proofs.Nets.{Sofar, sofar_full, sofar_more, sofar_none, sofar_stop}
-use Rattle.text.proofs.Scans.{word_short}
-use Rattle.text.specs.declared.inner.scan.Word.{Word}
+use Prim.Native.Nat.{◌-◌}
+use lib.ListN.{length}
+use Rattle.text.proofs.Nets.{Sofar}
 use Rattle.text.proofs.inner.scan.scan.Given as goal
 
 abbrev pub invariant-loop-k : goal.invariant-loop-k

@@ -1,10 +1,7 @@
-use Prim.Native.Nat.{◌-◌, ◌≤◌}
-use borrow.Author.Rules.{rules}
-use lib.ListN.{length, length-map, take}
+use lib.ListN.{length-map}
 use mathlib.Core.List.{map}
-use mathlib.Core.Path.{◌≡◌}
 use native.Mathlib.Omega.{arith}
-use Rattle.lists.specs.Vec.{vec, vec_none}
+use Rattle.lists.specs.Vec.{vec_none}
 use Rattle.rules.specs.Bounds.{rules_max}
 use Rattle.rules.specs.Nets.{cell}
 use Rattle.text.proofs.Lays.{cell_at, cell-low}

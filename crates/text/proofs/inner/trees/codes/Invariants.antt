@@ -1,14 +1,10 @@
 use Prim.Native.Nat.{◌-◌, ◌≤◌}
-use borrow.Author.Rules.{rules}
-use lib.ListN.{length, length-map, take}
+use lib.ListN.{length, take}
 use mathlib.Core.List.{map}
 use mathlib.Core.Path.{◌≡◌}
-use native.Mathlib.Omega.{arith}
-use Rattle.lists.specs.Vec.{vec, vec_none}
+use Rattle.lists.specs.Vec.{vec}
 use Rattle.rules.specs.Bounds.{rules_max}
 use Rattle.rules.specs.Nets.{cell}
-use Rattle.text.proofs.Lays.{cell_at, cell-low}
-use Rattle.text.proofs.Values.{fill_end, fill_turn}
 use Rattle.text.proofs.inner.trees.codes.Given as goal
 
 abbrev pub invariant-loop-i : goal.invariant-loop-i

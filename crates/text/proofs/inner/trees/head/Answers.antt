@@ -1,11 +1,8 @@
 use Prim.Native.Nat.{ℕ}
-use borrow.Author.Rules.{rules}
 use mathlib.Core.List.{[], ◌∷◌}
 use mathlib.Core.Path.{ap, sym}
 use native.Mathlib.Omega.{arith}
 use Rattle.print.proofs.Laws.{put_as, put_then}
-use Rattle.rules.specs.Bytes.{byte}
-use Rattle.rules.specs.Print.{net}
 use Rattle.rules.specs.Trits.{bit}
 use Rattle.text.proofs.Lays.{head_is, head_long}
 use Rattle.text.proofs.inner.trees.head.Goals as goal

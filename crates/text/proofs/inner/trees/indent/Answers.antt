@@ -1,8 +1,6 @@
-use borrow.Author.Rules.{rules}
 use native.Mathlib.Omega.{arith}
-use Rattle.print.proofs.Laws.{Todo, todo_all, todo_as, todo_done, todo_more, todo_room}
+use Rattle.print.proofs.Laws.{todo_all, todo_as, todo_done, todo_more, todo_room}
 use Rattle.print.proofs.Rows.{margin}
-use Rattle.rules.specs.Print.{indent}
 use Rattle.text.proofs.Lays.{indent_more, indent_none}
 use Rattle.text.proofs.inner.trees.indent.Goals as goal
 

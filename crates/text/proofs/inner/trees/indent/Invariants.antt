@@ -1,9 +1,5 @@
-use borrow.Author.Rules.{rules}
-use native.Mathlib.Omega.{arith}
-use Rattle.print.proofs.Laws.{Todo, todo_all, todo_as, todo_done, todo_more, todo_room}
-use Rattle.print.proofs.Rows.{margin}
+use Rattle.print.proofs.Laws.{Todo}
 use Rattle.rules.specs.Print.{indent}
-use Rattle.text.proofs.Lays.{indent_more, indent_none}
 use Rattle.text.proofs.inner.trees.indent.Given as goal
 
 abbrev pub invariant-loop-i : goal.invariant-loop-i

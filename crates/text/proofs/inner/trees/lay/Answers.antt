@@ -1,7 +1,5 @@
-use borrow.Author.Rules.{rules}
 use native.Mathlib.Omega.{arith}
 use Rattle.print.proofs.Laws.{put_then}
-use Rattle.rules.specs.Print.{indent}
 use Rattle.text.proofs.Lays.{indent_long, laid-put, laid_short, lay_long}
 use Rattle.text.proofs.inner.trees.lay.Goals as goal
 

@@ -1,4 +1,3 @@
-use borrow.Author.Rules.{rules}
 use Rattle.text.proofs.inner.trees.sign.Goals as goal
 
 pub returns-then-bit : goal.returns-then-bit
