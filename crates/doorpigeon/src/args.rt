@@ -1,5 +1,9 @@
 // What the program is asked, from its arguments.
+ghost use Rattle.std.specs.Prelude.{◌≤◌, length};
+
 use crate::{show, words};
+use std::env::{Env, FillError};
+use std::io;
 
 // The commands.
 pub const NONE: u8 = 0;
@@ -22,6 +26,9 @@ pub const EVAL: u8 = 8;
 
 pub const MERGE: u8 = 9;
 
+// The longest argument.
+pub const WORD_MAX: usize = 4096;
+
 // The letter of the option whose value is the next argument, 0 where none waits.
 const NO: u8 = 0;
 
@@ -43,62 +50,88 @@ pub struct Asked {
     v: bool,
 }
 
-fn refuse(mut asked: Asked, message: &[u8]) -> Asked {
-    show::error(message);
+fn refuse(err: &impl Print, mut asked: Asked, message: &str) -> io::Result<Asked> {
+    show::error(err, message)?;
     asked.wrong = true;
-    asked
+    Ok(asked)
 }
 
-fn refuse_word(mut asked: Asked, w: &[u8], message: &[u8]) -> Asked {
-    show::error_of(w, message);
+fn refuse_word(err: &impl Print, mut asked: Asked, w: &[u8], message: &str) -> io::Result<Asked> {
+    show::error_of(err, w, message)?;
     asked.wrong = true;
-    asked
+    Ok(asked)
 }
 
-fn refuse_command(asked: Asked, message: &[u8]) -> Asked {
-    let mut w = io::buffer();
-    let n = os::arg(asked.word, &mut w);
-    refuse_word(asked, &w[..n], message)
+// An argument that was looked at before.
+pub(crate) fn again(rt: &impl Env, i: usize, w: &mut [u8]) -> usize
+    ensures { result ≤ length w.new }
+{
+    match rt.arg(i, w) {
+        Ok(n) => n,
+        Err(_) => 0,
+    }
 }
 
-fn enable(mut asked: Asked, w: &[u8]) -> Asked {
+fn refuse_command(
+    rt: &impl Env,
+    err: &impl Print,
+    asked: Asked,
+    message: &str,
+) -> io::Result<Asked> {
+    let mut w = [0u8; WORD_MAX];
+    let n = again(rt, asked.word, &mut w);
+    refuse_word(err, asked, &w[..n], message)
+}
+
+fn enable(err: &impl Print, mut asked: Asked, w: &[u8]) -> io::Result<Asked> {
     let n = words::net_of(w);
     if !n.fine {
-        return refuse(asked, b"-e wants a net: write -e 1, -e 0, -e X or -e %5");
+        return refuse(
+            err,
+            asked,
+            "-e wants a net: write -e 1, -e 0, -e X or -e %5",
+        );
     }
     asked.enable = n.code;
-    asked
+    Ok(asked)
 }
 
-fn store(mut asked: Asked, w: &[u8]) -> Asked {
+fn store(err: &impl Print, mut asked: Asked, w: &[u8]) -> io::Result<Asked> {
     let n = words::number_of(w);
     if !n.fine {
-        return refuse(asked, b"-s wants a number of entries: write -s 1024");
+        return refuse(err, asked, "-s wants a number of entries: write -s 1024");
     }
     let k = n.value as usize;
     asked.numbers = tree::inner::NODE_RUN * k;
-    asked
+    Ok(asked)
 }
 
-fn setting(asked: Asked, w: &[u8], trits: &mut [u8]) -> Asked {
+fn setting(err: &impl Print, asked: Asked, w: &[u8], trits: &mut [u8]) -> io::Result<Asked> {
     if words::set_all(w, trits) {
-        return asked;
+        return Ok(asked);
     }
     refuse(
+        err,
         asked,
-        b"-v wants nets up to %9999 and their values: write -v %0=1,%3=X",
+        "-v wants nets up to %9999 and their values: write -v %0=1,%3=X",
     )
 }
 
-fn option(mut asked: Asked, letter: u8, w: &[u8], trits: &mut [u8]) -> Asked {
+fn option(
+    err: &impl Print,
+    mut asked: Asked,
+    letter: u8,
+    w: &[u8],
+    trits: &mut [u8],
+) -> io::Result<Asked> {
     asked.waits = NO;
     if letter == b'e' {
-        return enable(asked, w);
+        return enable(err, asked, w);
     }
     if letter == b's' {
-        return store(asked, w);
+        return store(err, asked, w);
     }
-    setting(asked, w, trits)
+    setting(err, asked, w, trits)
 }
 
 fn command_of(w: &[u8]) -> u8 {
@@ -162,16 +195,14 @@ fn unused(asked: Asked) -> u8 {
     NO
 }
 
-fn fitting(asked: Asked) -> Asked {
-    match unused(asked) {
-        b'e' => refuse_command(
-            asked,
-            b" does not use -e: it is for enable, tree, muxes and eval",
-        ),
-        b's' => refuse_command(asked, b" does not use -s: it is for tree, muxes and eval"),
-        b'v' => refuse_command(asked, b" does not use -v: it is for eval"),
-        _ => asked,
-    }
+fn fitting(rt: &impl Env, err: &impl Print, asked: Asked) -> io::Result<Asked> {
+    let message = match unused(asked) {
+        b'e' => " does not use -e: it is for enable, tree, muxes and eval",
+        b's' => " does not use -s: it is for tree, muxes and eval",
+        b'v' => " does not use -v: it is for eval",
+        _ => return Ok(asked),
+    };
+    refuse_command(rt, err, asked, message)
 }
 
 fn noted(mut asked: Asked, letter: u8) -> Asked {
@@ -186,44 +217,54 @@ fn noted(mut asked: Asked, letter: u8) -> Asked {
     asked
 }
 
-fn begin(mut asked: Asked, i: usize, w: &[u8]) -> Asked {
+fn begin(
+    rt: &impl Env,
+    err: &impl Print,
+    mut asked: Asked,
+    i: usize,
+    w: &[u8],
+) -> io::Result<Asked> {
     let c = command_of(w);
     asked.command = c;
     asked.word = i;
     if c == NONE {
-        return refuse_word(asked, w, b": no such command: write doorpigeon help");
+        return refuse_word(err, asked, w, ": no such command: write doorpigeon help");
     }
-    fitting(asked)
+    fitting(rt, err, asked)
 }
 
 // The net, the child's file, the parent's file.
-fn merge_word(mut asked: Asked, i: usize, w: &[u8]) -> Asked {
+fn merge_word(err: &impl Print, mut asked: Asked, i: usize, w: &[u8]) -> io::Result<Asked> {
     if asked.first == 0 {
         let n = words::net_of(w);
         if !n.fine {
-            return refuse(asked, b"merge wants a net: write merge %10 CHILD FILE");
+            return refuse(err, asked, "merge wants a net: write merge %10 CHILD FILE");
         }
         asked.first = i;
         asked.at = n.code;
-        return asked;
+        return Ok(asked);
     }
     if asked.second == 0 {
         asked.second = i;
-        return asked;
+        return Ok(asked);
     }
     if asked.third == 0 {
         asked.third = i;
-        return asked;
+        return Ok(asked);
     }
-    refuse(asked, b"too many files: write merge NET CHILD FILE")
+    refuse(err, asked, "too many files: write merge NET CHILD FILE")
 }
 
-fn file(mut asked: Asked, i: usize) -> Asked {
+fn file(err: &impl Print, mut asked: Asked, i: usize) -> io::Result<Asked> {
     if asked.first == 0 {
         asked.first = i;
-        return asked;
+        return Ok(asked);
     }
-    refuse(asked, b"too many files: write one, or - for standard input")
+    refuse(
+        err,
+        asked,
+        "too many files: write one, or - for standard input",
+    )
 }
 
 // The letter of an option, 0 where the word is none.
@@ -254,70 +295,101 @@ fn is_help(w: &[u8]) -> bool {
     check::same(w, b"--help")
 }
 
-fn word(mut asked: Asked, i: usize, w: &[u8]) -> Asked {
+fn word(
+    rt: &impl Env,
+    err: &impl Print,
+    mut asked: Asked,
+    i: usize,
+    w: &[u8],
+) -> io::Result<Asked> {
     if is_help(w) {
         asked.command = HELP;
-        return asked;
+        return Ok(asked);
     }
     let l = letter(w);
     if is_known(w) {
-        return fitting(noted(asked, l));
+        return fitting(rt, err, noted(asked, l));
     }
     if l != NO {
-        return refuse_word(asked, w, b": no such option: write doorpigeon help");
+        return refuse_word(err, asked, w, ": no such option: write doorpigeon help");
     }
     if asked.command == NONE {
-        return begin(asked, i, w);
+        return begin(rt, err, asked, i, w);
     }
     if asked.command == MERGE {
-        return merge_word(asked, i, w);
+        return merge_word(err, asked, i, w);
     }
-    file(asked, i)
+    file(err, asked, i)
 }
 
-// Nothing is looked at after a wrong one, or after help.
-fn argument(asked: Asked, i: usize, trits: &mut [u8]) -> Asked {
-    if asked.wrong {
-        return asked;
-    }
-    if asked.command == HELP {
-        return asked;
-    }
-    let mut w = io::buffer();
-    let n = os::arg(i, &mut w);
-    if os::errno() != 0 {
-        return refuse(asked, b"an argument is too long: write at most 4096 bytes");
-    }
+fn taken(
+    rt: &impl Env,
+    err: &impl Print,
+    asked: Asked,
+    i: usize,
+    w: &[u8],
+    trits: &mut [u8],
+) -> io::Result<Asked> {
     if asked.waits == NO {
-        return word(asked, i, &w[..n]);
+        return word(rt, err, asked, i, w);
     }
-    option(asked, asked.waits, &w[..n], trits)
+    option(err, asked, asked.waits, w, trits)
+}
+
+// None where there is no such argument.
+fn argument(
+    rt: &impl Env,
+    err: &impl Print,
+    asked: Asked,
+    i: usize,
+    trits: &mut [u8],
+) -> io::Result<Option<Asked>> {
+    let mut w = [0u8; WORD_MAX];
+    match rt.arg(i, &mut w) {
+        Ok(n) => Ok(Some(taken(rt, err, asked, i, &w[..n], trits)?)),
+        Err(FillError::TooLong) => Ok(Some(refuse(
+            err,
+            asked,
+            "an argument is too long: write at most 4096 bytes",
+        )?)),
+        Err(FillError::NotPresent) => Ok(None),
+    }
 }
 
 // Nothing is left out at the end.
-fn whole(asked: Asked) -> Asked {
+fn whole(err: &impl Print, asked: Asked) -> io::Result<Asked> {
     if asked.wrong {
-        return asked;
+        return Ok(asked);
     }
     if asked.waits != NO {
         return refuse(
+            err,
             asked,
-            b"the last option has no value: write doorpigeon help",
+            "the last option has no value: write doorpigeon help",
         );
     }
     if asked.command != MERGE {
-        return asked;
+        return Ok(asked);
     }
     if asked.second == 0 {
         return refuse(
+            err,
             asked,
-            b"merge wants a net and a file: write merge NET CHILD FILE",
+            "merge wants a net and a file: write merge NET CHILD FILE",
         );
     }
-    asked
+    Ok(asked)
 }
 
-pub(crate) fn arguments(trits: &mut [u8]) -> Asked {
+// Nothing is looked at after a wrong one, or after help.
+fn is_done(asked: Asked) -> bool {
+    if asked.wrong {
+        return true;
+    }
+    asked.command == HELP
+}
+
+pub(crate) fn arguments(rt: &impl Env, err: &impl Print, trits: &mut [u8]) -> io::Result<Asked> {
     let mut asked = Asked {
         wrong: false,
         command: NONE,
@@ -333,11 +405,14 @@ pub(crate) fn arguments(trits: &mut [u8]) -> Asked {
         s: false,
         v: false,
     };
-    let n = os::arg_count();
-    let mut i = 1;
-    while i < n {
-        asked = argument(asked, i, trits);
-        i += 1;
+    for i in 1..usize::MAX {
+        if is_done(asked) {
+            break;
+        }
+        let Some(next) = argument(rt, err, asked, i, trits)? else {
+            break;
+        };
+        asked = next;
     }
-    whole(asked)
+    whole(err, asked)
 }

@@ -1,9 +1,13 @@
 // The program: a printed matrix in, and what is asked of it out. All that matters is in the libraries.
 #![tactic(auto)]
 
-ghost use Rattle.std.specs.Prelude.{◌≤◌};
+ghost use Rattle.std.specs.Prelude.{◌≤◌, IfOk, length};
 
 use args::Asked;
+use std::env::Env;
+use std::io::Read;
+use std::rt::Files;
+use std::{fs, io};
 
 mod args;
 mod show;
@@ -25,123 +29,146 @@ struct Opened {
     read: text::ReadMade,
 }
 
-fn main() {
+fn main(rt: HostRuntime) -> io::Result<()> {
+    let err = rt.stderr();
     let mut trits = [rules::UNDEF; TRITS];
-    let asked = args::arguments(&mut trits);
+    let asked = args::arguments(&rt, &err, &mut trits)?;
     if asked.wrong {
-        return;
+        return Ok(());
     }
     if asked.command == args::HELP {
-        show::help(1);
-        return;
+        return show::help(&rt);
     }
     if asked.command == args::NONE {
-        show::help(2);
-        return;
+        return show::help(&err);
     }
     if asked.command == args::MERGE {
-        merge(asked);
-        return;
+        return merge(&rt, &err, asked);
     }
-    answer(asked, &trits);
+    answer(&rt, &err, asked, &trits)
 }
 
-// As libc::read, until the buffer is full or the input ends. A file that was not opened leaves its own errno.
-fn load(fd: i32, buf: &mut [u8]) -> isize {
-    if fd < 0 {
-        return -1;
-    }
+// Up to where the bytes lent are full or the file ends.
+fn load(file: &mut impl Read, buf: &mut [u8]) -> io::Result<usize>
+    ensures { IfOk result (λ n. n ≤ length buf.new) }
+{
     let mut n = 0;
     while n < buf.len() {
-        let got = libc::read(fd, &mut buf[n..]);
-        if got < 0 {
-            return -1;
-        }
-        let more = io::count(got, &buf[n..]);
+        let more = file.read(&mut buf[n..])?;
         if more == 0 {
-            return n as isize;
+            return Ok(n);
         }
         n += more;
     }
-    n as isize
+    Ok(n)
 }
 
-fn from(fd: i32, name: &[u8]) -> Opened {
+fn unread(err: &impl Print, name: &[u8], reason: &io::Error) -> io::Result<Opened> {
+    show::unread(err, name, reason)?;
+    Ok(Opened {
+        found: false,
+        read: text::read(b""),
+    })
+}
+
+fn from(err: &impl Print, file: &mut impl Read, name: &[u8]) -> io::Result<Opened> {
     let mut buf = [0u8; READ_MAX];
-    let got = load(fd, &mut buf);
-    if got < 0 {
-        show::unread(name);
-        return Opened {
-            found: false,
-            read: text::read(b""),
-        };
+    match load(file, &mut buf) {
+        Ok(n) => Ok(Opened {
+            found: true,
+            read: text::read(&buf[..n]),
+        }),
+        Err(e) => unread(err, name, &e),
     }
-    let n = io::count(got, &buf);
-    Opened {
-        found: true,
-        read: text::read(&buf[..n]),
+}
+
+fn standard(rt: &impl Input, err: &impl Print) -> io::Result<Opened> {
+    from(err, &mut rt.reader(), b"standard input")
+}
+
+// A path is text to std.
+fn open<R: Files>(rt: &R, path: &[u8]) -> io::Result<R::File> {
+    match std::str::from_utf8(path) {
+        Ok(p) => fs::open(rt, p),
+        Err(_) => Err(io::Error::from(io::ErrorKind::InvalidFilename)),
+    }
+}
+
+fn named(rt: &impl Files, err: &impl Print, path: &[u8]) -> io::Result<Opened> {
+    match open(rt, path) {
+        Ok(mut file) => from(err, &mut file, path),
+        Err(e) => unread(err, path, &e),
     }
 }
 
 // Standard input where no file is named.
-fn given(i: usize) -> Opened {
+fn given(rt: &(impl Env + Files + Input), err: &impl Print, i: usize) -> io::Result<Opened> {
     if i == 0 {
-        return from(0, b"standard input");
+        return standard(rt, err);
     }
-    let mut path = io::buffer();
-    let n = os::arg(i, &mut path);
+    let mut path = [0u8; args::WORD_MAX];
+    let n = args::again(rt, i, &mut path);
     if check::same(&path[..n], b"-") {
-        return from(0, b"standard input");
+        return standard(rt, err);
     }
-    from(os::open_read(&path[..n]), &path[..n])
+    named(rt, err, &path[..n])
 }
 
 // Whether a matrix is there; a refusal is said.
-fn is_read(g: Opened) -> bool {
+fn is_read(rt: &impl Print, g: Opened) -> io::Result<bool> {
     if !g.found {
-        return false;
+        return Ok(false);
     }
     let r = g.read;
     if r.no != 0 {
-        show::refused_line(r.line);
-        return false;
+        show::refused_line(rt, r.line)?;
+        return Ok(false);
     }
-    true
+    Ok(true)
 }
 
-fn answer(asked: Asked, trits: &[u8]) {
-    let g = given(asked.first);
-    if !is_read(g) {
-        return;
+fn answer(
+    rt: &(impl Env + Files + Input + Print),
+    err: &impl Print,
+    asked: Asked,
+    trits: &[u8],
+) -> io::Result<()> {
+    let g = given(rt, err, asked.first)?;
+    if !is_read(rt, g)? {
+        return Ok(());
     }
     let r = g.read;
     let m = r.matrix;
     if asked.command == args::READ {
-        show::matrix(m);
+        show::matrix(rt, m)
     } else if asked.command == args::NORMAL {
-        show::made(m.normalize());
+        show::made(rt, m.normalize())
     } else if asked.command == args::ENABLE {
-        show::made(m.add_enable(trits::inner::net(asked.enable)));
+        show::made(rt, m.add_enable(trits::inner::net(asked.enable)))
     } else if asked.command == args::TREE {
-        tree(m, asked);
+        tree(rt, m, asked)
     } else {
-        of_outputs(m, asked, trits);
+        of_outputs(rt, m, asked, trits)
     }
 }
 
-fn merge(asked: Asked) {
-    let c = given(asked.second);
-    if !is_read(c) {
-        return;
+fn merge(
+    rt: &(impl Env + Files + Input + Print),
+    err: &impl Print,
+    asked: Asked,
+) -> io::Result<()> {
+    let c = given(rt, err, asked.second)?;
+    if !is_read(rt, c)? {
+        return Ok(());
     }
-    let p = given(asked.third);
-    if !is_read(p) {
-        return;
+    let p = given(rt, err, asked.third)?;
+    if !is_read(rt, p)? {
+        return Ok(());
     }
     let child = c.read;
     let parent = p.read;
     let m = parent.matrix;
-    show::made(m.merge(trits::inner::net(asked.at), child.matrix));
+    show::made(rt, m.merge(trits::inner::net(asked.at), child.matrix))
 }
 
 fn least(a: usize, b: usize) -> usize
@@ -157,11 +184,11 @@ fn planted(m: matrix::Matrix, asked: Asked, store: &mut [u16]) -> tree::Built {
     dispatch::dispatch(m, enable, &mut store[..k])
 }
 
-fn tree(m: matrix::Matrix, asked: Asked) {
+fn tree(rt: &impl Print, m: matrix::Matrix, asked: Asked) -> io::Result<()> {
     let mut store = [0u16; STORE];
     match planted(m, asked, &mut store) {
-        tree::Built::Done { root, size: _ } => show::tree(&store, root),
-        tree::Built::Refused(no) => show::refused(no),
+        tree::Built::Done { root, size: _ } => show::tree(rt, &store, root),
+        tree::Built::Refused(no) => show::refused(rt, no),
     }
 }
 
@@ -179,44 +206,55 @@ fn lowered(m: matrix::Matrix, asked: Asked, outs: &[u16], table: &mut [u16]) -> 
     }
 }
 
-fn muxes(m: matrix::Matrix, asked: Asked, outs: &[u16]) {
+fn muxes(rt: &impl Print, m: matrix::Matrix, asked: Asked, outs: &[u16]) -> io::Result<()> {
     let mut table = [0u16; TABLE];
     let e = lowered(m, asked, outs, &mut table);
     if e.no != 0 {
-        show::refused(e.no);
-        return;
+        return show::refused(rt, e.no);
     }
     let nets = e.nets;
-    show::muxes(&table, e.used);
-    show::pairs(outs, &nets);
+    show::muxes(rt, &table, e.used)?;
+    show::pairs(rt, outs, &nets)
 }
 
-fn values(m: matrix::Matrix, asked: Asked, outs: &[u16], trits: &[u8]) {
+fn values(
+    rt: &impl Print,
+    m: matrix::Matrix,
+    asked: Asked,
+    outs: &[u16],
+    trits: &[u8],
+) -> io::Result<()> {
     let mut table = [0u16; TABLE];
     let e = lowered(m, asked, outs, &mut table);
     if e.no != 0 {
-        show::refused(e.no);
-        return;
+        return show::refused(rt, e.no);
     }
     let nets = e.nets;
-    show::values(outs, &nets, &table, e.used, trits);
+    show::values(rt, outs, &nets, &table, e.used, trits)
 }
 
 // What is asked of the first so many outputs.
-fn shown(m: matrix::Matrix, asked: Asked, outs: &[u16], count: usize, trits: &[u8]) {
+fn shown(
+    rt: &impl Print,
+    m: matrix::Matrix,
+    asked: Asked,
+    outs: &[u16],
+    count: usize,
+    trits: &[u8],
+) -> io::Result<()> {
     let k = least(count, outs.len());
     if asked.command == args::OUTPUTS {
-        show::nets(&outs[..k]);
+        show::nets(rt, &outs[..k])
     } else if asked.command == args::MUXES {
-        muxes(m, asked, &outs[..k]);
+        muxes(rt, m, asked, &outs[..k])
     } else {
-        values(m, asked, &outs[..k], trits);
+        values(rt, m, asked, &outs[..k], trits)
     }
 }
 
 // A matrix that was read has no number against it, so its outputs have none.
-fn of_outputs(m: matrix::Matrix, asked: Asked, trits: &[u8]) {
+fn of_outputs(rt: &impl Print, m: matrix::Matrix, asked: Asked, trits: &[u8]) -> io::Result<()> {
     let o = m.outputs();
     let nets = o.nets;
-    shown(m, asked, &nets, o.count, trits);
+    shown(rt, m, asked, &nets, o.count, trits)
 }

@@ -1,5 +1,6 @@
 // A chain as deep as a store lets it be: its check, its muxes and its text.
 use crate::{handed, numbers, say};
+use std::io;
 
 const RUN: usize = tree::inner::NODE_RUN;
 
@@ -58,94 +59,97 @@ fn build(store: &mut [u16], depth: u16) {
     set(store, p + 1, 1000);
 }
 
-fn size(name: &[u8], store: &[u16], root: usize) {
-    say::text(name);
-    handed::check_in(store, root);
+fn size(rt: &impl Print, name: &[u8], store: &[u16], root: usize) -> io::Result<()> {
+    say::text(rt, name)?;
+    handed::check_in(rt, store, root)
 }
 
-fn entry(table: &[u16], k: usize) {
+fn entry(rt: &impl Print, table: &[u16], k: usize) -> io::Result<()> {
     if k >= rules::MUX_MAX {
-        return;
+        return Ok(());
     }
     let p = evaluate::inner::MUX_RUN * k;
     let e = p + evaluate::inner::MUX_RUN;
     if table.len() < e {
-        return;
+        return Ok(());
     }
-    numbers::show(&table[p..e]);
+    numbers::show(rt, &table[p..e])
 }
 
 // The first two muxes, the last, and what follows.
-fn entries(table: &[u16]) {
-    entry(table, 0);
-    entry(table, 1);
-    entry(table, 510);
-    entry(table, 511);
+fn entries(rt: &impl Print, table: &[u16]) -> io::Result<()> {
+    entry(rt, table, 0)?;
+    entry(rt, table, 1)?;
+    entry(rt, table, 510)?;
+    entry(rt, table, 511)
 }
 
 // One-hot of %1000.
-fn lower(store: &[u16], root: usize, table: &mut [u16]) {
+fn lower(rt: &impl Print, store: &[u16], root: usize, table: &mut [u16]) -> io::Result<()> {
     let outputs = [1003u16; 1];
-    say::emitted(emit::one_hot(store, rules::Place(root), &outputs, 0, table));
+    say::emitted(
+        rt,
+        emit::one_hot(store, rules::Place(root), &outputs, 0, table),
+    )
 }
 
-fn muxes(store: &[u16], root: usize) {
+fn muxes(rt: &impl Print, store: &[u16], root: usize) -> io::Result<()> {
     let mut table = [65535u16; TABLE];
-    lower(store, root, &mut table);
-    entries(&table);
+    lower(rt, store, root, &mut table)?;
+    entries(rt, &table)
 }
 
-fn print_in(store: &[u16], out: &mut [u8]) {
-    say::counted(text::print_tree(store, rules::Place(1022), out));
+fn print_in(rt: &impl Print, store: &[u16], out: &mut [u8]) -> io::Result<()> {
+    say::counted(rt, text::print_tree(store, rules::Place(1022), out))
 }
 
 // The text's first line, and its last without the indent.
-fn ends(out: &[u8]) {
-    say::bytes(out, FIRST);
+fn ends(rt: &impl Print, out: &[u8]) -> io::Result<()> {
+    say::bytes(rt, out, FIRST)?;
     if out.len() < LAST {
-        return;
+        return Ok(());
     }
     let at = out.len() - LAST;
-    say::text(&out[at..]);
+    say::text(rt, &out[at..])
 }
 
-fn print_ends(store: &[u16], out: &mut [u8]) {
-    print_in(store, out);
-    ends(out);
+fn print_ends(rt: &impl Print, store: &[u16], out: &mut [u8]) -> io::Result<()> {
+    print_in(rt, store, out)?;
+    ends(rt, out)
 }
 
 // In one byte too few.
-fn short_text(store: &[u16]) {
+fn short_text(rt: &impl Print, store: &[u16]) -> io::Result<()> {
     let mut out = [0u8; TEXT - 1];
-    print_in(store, &mut out);
+    print_in(rt, store, &mut out)
 }
 
-fn whole_text(store: &[u16]) {
+fn whole_text(rt: &impl Print, store: &[u16]) -> io::Result<()> {
     let mut out = [0u8; TEXT];
-    print_ends(store, &mut out);
+    print_ends(rt, store, &mut out)
 }
 
-pub(crate) fn deepest() {
+pub(crate) fn deepest(rt: &impl Print) -> io::Result<()> {
     let mut store = [0u16; CHAIN * RUN];
     build(&mut store, DEEP);
-    size(b"chain of 511: ", &store, 1022);
-    muxes(&store, 1022);
-    short_text(&store);
-    whole_text(&store);
+    size(rt, b"chain of 511: ", &store, 1022)?;
+    muxes(rt, &store, 1022)?;
+    short_text(rt, &store)?;
+    whole_text(rt, &store)
 }
 
 // The deepest branch tests the net of the root.
-pub(crate) fn spoiled() {
+pub(crate) fn spoiled(rt: &impl Print) -> io::Result<()> {
     let mut store = [0u16; CHAIN * RUN];
     build(&mut store, DEEP);
     set(&mut store, RUN * 512 + 1, 0);
-    size(b"chain of 511, last test as the first: ", &store, 1022);
-    muxes(&store, 1022);
+    size(rt, b"chain of 511, last test as the first: ", &store, 1022)?;
+    muxes(rt, &store, 1022)
 }
 
 // Its root would be at place 1,024.
-pub(crate) fn longer() {
+pub(crate) fn longer(rt: &impl Print) -> io::Result<()> {
     let mut store = [0u16; CHAIN * RUN];
     build(&mut store, DEEP + 1);
-    size(b"chain of 512: ", &store, 1024);
+    size(rt, b"chain of 512: ", &store, 1024)
 }

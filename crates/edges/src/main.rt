@@ -11,68 +11,70 @@ mod numbers;
 mod planted;
 mod say;
 
-fn main() {
-    stores();
-    one_hots();
-    disjoints();
-    prefixes();
-    handed_in();
-    texts();
-    chains();
+use std::io;
+
+fn main(rt: HostRuntime) -> io::Result<()> {
+    stores(&rt)?;
+    one_hots(&rt)?;
+    disjoints(&rt)?;
+    prefixes(&rt)?;
+    handed_in(&rt)?;
+    texts(&rt)?;
+    chains(&rt)
 }
 
-fn stores() {
-    planted::settings();
-    planted::more_settings();
-    planted::lengths();
-    planted::long_lengths();
-    planted::no_catch();
-    planted::orders();
-    planted::more_orders();
+fn stores(rt: &impl Print) -> io::Result<()> {
+    planted::settings(rt)?;
+    planted::more_settings(rt)?;
+    planted::lengths(rt)?;
+    planted::long_lengths(rt)?;
+    planted::no_catch(rt)?;
+    planted::orders(rt)?;
+    planted::more_orders(rt)
 }
 
-fn one_hots() {
-    hot::settings();
-    hot::widths();
-    hot::nets();
-    hot::rooms();
-    hot::long_tables();
-    hot::tables();
-    hot::trees();
+fn one_hots(rt: &impl Print) -> io::Result<()> {
+    hot::settings(rt)?;
+    hot::widths(rt)?;
+    hot::nets(rt)?;
+    hot::rooms(rt)?;
+    hot::long_tables(rt)?;
+    hot::tables(rt)?;
+    hot::trees(rt)
 }
 
-fn disjoints() {
-    apart::updates();
-    apart::overlaps();
-    apart::widths();
-    apart::nets();
-    apart::rooms();
-    apart::tables();
-    apart::long_tables();
-    apart::trees();
+fn disjoints(rt: &impl Print) -> io::Result<()> {
+    apart::updates(rt)?;
+    apart::overlaps(rt)?;
+    apart::widths(rt)?;
+    apart::nets(rt)?;
+    apart::rooms(rt)?;
+    apart::tables(rt)?;
+    apart::long_tables(rt)?;
+    apart::trees(rt)
 }
 
-fn prefixes() {
-    ahead::lengths();
-    ahead::leaves();
-    ahead::codes();
+fn prefixes(rt: &impl Print) -> io::Result<()> {
+    ahead::lengths(rt)?;
+    ahead::leaves(rt)?;
+    ahead::codes(rt)
 }
 
-fn handed_in() {
-    handed::leaves();
-    handed::runs();
-    handed::roots();
-    handed::branches();
-    handed::paths();
+fn handed_in(rt: &impl Print) -> io::Result<()> {
+    handed::leaves(rt)?;
+    handed::runs(rt)?;
+    handed::roots(rt)?;
+    handed::branches(rt)?;
+    handed::paths(rt)
 }
 
-fn texts() {
-    handed::rooms();
-    handed::bad_text();
+fn texts(rt: &impl Print) -> io::Result<()> {
+    handed::rooms(rt)?;
+    handed::bad_text(rt)
 }
 
-fn chains() {
-    chain::deepest();
-    chain::spoiled();
-    chain::longer();
+fn chains(rt: &impl Print) -> io::Result<()> {
+    chain::deepest(rt)?;
+    chain::spoiled(rt)?;
+    chain::longer(rt)
 }

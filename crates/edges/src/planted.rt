@@ -1,5 +1,6 @@
 // Settings 1 to 9: dispatch, the store it leaves, and the tree's text; then the store's lengths, and which number comes first.
 use crate::{handed, numbers, say};
+use std::io;
 
 const RUN: usize = tree::inner::NODE_RUN;
 
@@ -16,162 +17,177 @@ const UNDEF: u16 = 2;
 
 const FIVE: u16 = 8;
 
-fn entry(store: &[u16], k: usize) {
+fn entry(rt: &impl Print, store: &[u16], k: usize) -> io::Result<()> {
     if k >= rules::NODES_MAX {
-        return;
+        return Ok(());
     }
     let p = RUN * k;
     let e = p + RUN;
     if store.len() < e {
-        return;
+        return Ok(());
     }
-    numbers::show(&store[p..e]);
+    numbers::show(rt, &store[p..e])
 }
 
 // The entries up to the root, a line each.
-fn entries(store: &[u16], size: usize) {
+fn entries(rt: &impl Print, store: &[u16], size: usize) -> io::Result<()> {
     let mut k = 0;
     while k < size {
-        entry(store, k);
+        entry(rt, store, k)?;
         k += 1;
     }
+    Ok(())
 }
 
-fn grown(store: &[u16], root: rules::Place, size: usize) {
-    say::built(root, size);
-    entries(store, size);
-    handed::print_to(store, root.0);
+fn grown(rt: &impl Print, store: &[u16], root: rules::Place, size: usize) -> io::Result<()> {
+    say::built(rt, root, size)?;
+    entries(rt, store, size)?;
+    handed::print_to(rt, store, root.0)
 }
 
-fn refused(store: &[u16], no: u8) {
-    say::refused(no);
-    numbers::show(store);
+fn refused(rt: &impl Print, store: &[u16], no: u8) -> io::Result<()> {
+    say::refused(rt, no)?;
+    numbers::show(rt, store)
 }
 
-fn plant(m: matrix::Matrix, enable: u16, store: &mut [u16]) {
+fn plant(rt: &impl Print, m: matrix::Matrix, enable: u16, store: &mut [u16]) -> io::Result<()> {
     match dispatch::dispatch(m, trits::inner::net(enable), store) {
-        tree::Built::Done { root, size } => grown(store, root, size),
-        tree::Built::Refused(no) => refused(store, no),
+        tree::Built::Done { root, size } => grown(rt, store, root, size),
+        tree::Built::Refused(no) => refused(rt, store, no),
     }
 }
 
 // Dispatch into a store of n numbers.
-fn plant_in(m: matrix::Matrix, enable: u16, n: usize) {
+fn plant_in(rt: &impl Print, m: matrix::Matrix, enable: u16, n: usize) -> io::Result<()> {
     let mut store = [OLD; STORE];
     let k = numbers::first(n, &store);
-    plant(m, enable, &mut store[..k]);
+    plant(rt, m, enable, &mut store[..k])
 }
 
 // A store of as many numbers as the peak's entries have, and of one entry fewer.
-fn setting(name: &[u8], matrix: &[u8], enable: u16, peak: usize, short: usize) {
-    say::line(name);
+fn setting(
+    rt: &impl Print,
+    name: &[u8],
+    matrix: &[u8],
+    enable: u16,
+    peak: usize,
+    short: usize,
+) -> io::Result<()> {
+    say::line(rt, name)?;
     let r = text::read(matrix);
-    plant_in(r.matrix, enable, peak);
-    plant_in(r.matrix, enable, short);
+    plant_in(rt, r.matrix, enable, peak)?;
+    plant_in(rt, r.matrix, enable, short)
 }
 
-pub(crate) fn settings() {
+pub(crate) fn settings(rt: &impl Print) -> io::Result<()> {
     setting(
+        rt,
         b"setting 1",
         b"[ %1 %0 ]:\n  00 => %10\n  10 => %10\n  XX => %11\n",
         ON,
         3 * RUN,
         2 * RUN,
-    );
+    )?;
     setting(
+        rt,
         b"setting 2",
         b"[ %0 ]:\n  1 => %10\n  X => (empty)\n",
         FIVE,
         5 * RUN,
         4 * RUN,
-    );
+    )?;
     setting(
+        rt,
         b"setting 3",
         b"[ %0 ]:\n  1 => %10\n  X => (empty)\n",
         UNDEF,
         RUN,
         0,
-    );
+    )?;
     setting(
+        rt,
         b"setting 4",
         b"[ X ]:\n  1 => %10\n  X => %11\n",
         ON,
         RUN,
         0,
-    );
+    )?;
     setting(
+        rt,
         b"setting 5",
         b"[ %0 %0 ]:\n  1X => %10\n  01 => %12\n  XX => %11\n",
         ON,
         3 * RUN,
         2 * RUN,
-    );
+    )
 }
 
-pub(crate) fn more_settings() {
+pub(crate) fn more_settings(rt: &impl Print) -> io::Result<()> {
     setting(
+        rt,
         b"setting 6",
         b"[ 0 %0 ]:\n  0X => %10\n  X0 => %11\n  XX => %12\n",
         ON,
         2 * RUN,
         RUN,
-    );
-    setting(b"setting 7", b"[ %0 ]:\n  1 => %10\n", ON, 2 * RUN, 0);
-    setting(b"setting 8", b"[ ]:\n   => %10\n", ON, RUN, 0);
+    )?;
+    setting(rt, b"setting 7", b"[ %0 ]:\n  1 => %10\n", ON, 2 * RUN, 0)?;
+    setting(rt, b"setting 8", b"[ ]:\n   => %10\n", ON, RUN, 0)?;
     setting(
+        rt,
         b"setting 9",
         b"[ %0 ]:\n  0 => %10 %12\n  X => %11 %12\n",
         ON,
         3 * RUN,
         2 * RUN,
-    );
+    )
 }
 
-fn answer(b: tree::Built) {
+fn answer(rt: &impl Print, b: tree::Built) -> io::Result<()> {
     match b {
-        tree::Built::Done { root, size } => say::built(root, size),
-        tree::Built::Refused(no) => say::refused(no),
+        tree::Built::Done { root, size } => say::built(rt, root, size),
+        tree::Built::Refused(no) => say::refused(rt, no),
     }
 }
 
-fn fill(m: matrix::Matrix, enable: u16, store: &mut [u16]) {
-    answer(dispatch::dispatch(m, trits::inner::net(enable), store));
-    numbers::show(store);
+fn fill(rt: &impl Print, m: matrix::Matrix, enable: u16, store: &mut [u16]) -> io::Result<()> {
+    answer(rt, dispatch::dispatch(m, trits::inner::net(enable), store))?;
+    numbers::show(rt, store)
 }
 
 // Dispatch into a store of n numbers, and all of them afterwards.
-fn fill_in(m: matrix::Matrix, enable: u16, n: usize) {
+fn fill_in(rt: &impl Print, m: matrix::Matrix, enable: u16, n: usize) -> io::Result<()> {
     let mut store = [OLD; STORE];
     let k = numbers::first(n, &store);
-    fill(m, enable, &mut store[..k]);
+    fill(rt, m, enable, &mut store[..k])
 }
 
-fn length(n: usize) {
+fn length(rt: &impl Print, n: usize) -> io::Result<()> {
     let r = text::read(b"[ %0 ]:\n  1 => %10\n  X => (empty)\n");
-    say::text(b"setting 2 in ");
-    say::decimal(n);
-    say::text(b" numbers: ");
-    fill_in(r.matrix, FIVE, n);
+    say::text(rt, b"setting 2 in ")?;
+    say::decimal(rt, n)?;
+    say::text(rt, b" numbers: ")?;
+    fill_in(rt, r.matrix, FIVE, n)
 }
 
 // Setting 2 in stores of 0, 1, 4 and 5 entries, and with a part of one.
-pub(crate) fn lengths() {
-    length(0);
-    length(5);
-    length(RUN);
-    length(4 * RUN);
-    length(4 * RUN + 5);
-    length(5 * RUN);
-    length(5 * RUN + 5);
+pub(crate) fn lengths(rt: &impl Print) -> io::Result<()> {
+    length(rt, 0)?;
+    length(rt, 5)?;
+    length(rt, RUN)?;
+    length(rt, 4 * RUN)?;
+    length(rt, 4 * RUN + 5)?;
+    length(rt, 5 * RUN)?;
+    length(rt, 5 * RUN + 5)
 }
 
 // The same in 1,024 entries and more.
-pub(crate) fn long_lengths() {
-    length(1024 * RUN);
-    length(1024 * RUN + 5);
-    length(1025 * RUN);
-    length(1100 * RUN);
-    length(1100 * RUN + 5);
+pub(crate) fn long_lengths(rt: &impl Print) -> io::Result<()> {
+    length(rt, 1024 * RUN)?;
+    length(rt, 1024 * RUN + 5)?;
+    length(rt, 1025 * RUN)?;
+    length(rt, 1100 * RUN)?;
+    length(rt, 1100 * RUN + 5)
 }
 
 fn bare() -> matrix::Matrix {
@@ -179,44 +195,44 @@ fn bare() -> matrix::Matrix {
 }
 
 // No catch-all, in a store of nothing and in one of 1,025 entries.
-pub(crate) fn no_catch() {
-    say::text(b"no catch-all, store of 0: ");
-    fill_in(bare(), ON, 0);
-    say::text(b"no catch-all, 1,025 entries: ");
-    fill_in(bare(), ON, 1025 * RUN);
-    say::text(b"no catch-all, enable %9999: ");
-    fill_in(bare(), 10002, RUN);
-    say::text(b"no catch-all, enable %10000: ");
-    fill_in(bare(), 10003, RUN);
+pub(crate) fn no_catch(rt: &impl Print) -> io::Result<()> {
+    say::text(rt, b"no catch-all, store of 0: ")?;
+    fill_in(rt, bare(), ON, 0)?;
+    say::text(rt, b"no catch-all, 1,025 entries: ")?;
+    fill_in(rt, bare(), ON, 1025 * RUN)?;
+    say::text(rt, b"no catch-all, enable %9999: ")?;
+    fill_in(rt, bare(), 10002, RUN)?;
+    say::text(rt, b"no catch-all, enable %10000: ")?;
+    fill_in(rt, bare(), 10003, RUN)
 }
 
-fn counted(name: &[u8], columns: usize, count: usize) {
-    say::text(name);
+fn counted(rt: &impl Print, name: &[u8], columns: usize, count: usize) -> io::Result<()> {
+    say::text(rt, name)?;
     let mut m = bare();
     m.columns = columns;
     m.count = count;
-    fill_in(m, ON, 2 * RUN);
+    fill_in(rt, m, ON, 2 * RUN)
 }
 
-fn valued(name: &[u8], net: u16) {
-    say::text(name);
+fn valued(rt: &impl Print, name: &[u8], net: u16) -> io::Result<()> {
+    say::text(rt, name)?;
     let mut m = bare();
     m.value[0] = net;
-    fill_in(m, ON, 2 * RUN);
+    fill_in(rt, m, ON, 2 * RUN)
 }
 
-fn rowed(name: &[u8], trit: u8, len: usize) {
-    say::text(name);
+fn rowed(rt: &impl Print, name: &[u8], trit: u8, len: usize) -> io::Result<()> {
+    say::text(rt, name)?;
     let mut m = bare();
     let mut row = m.rows[0];
     row.pattern[0] = trit;
     row.len = len;
     m.rows[0] = row;
-    fill_in(m, ON, 2 * RUN);
+    fill_in(rt, m, ON, 2 * RUN)
 }
 
-fn ruled(name: &[u8], first: u16, count: usize) {
-    say::text(name);
+fn ruled(rt: &impl Print, name: &[u8], first: u16, count: usize) -> io::Result<()> {
+    say::text(rt, name)?;
     let mut m = bare();
     let mut row = m.rows[0];
     let named = sets::Rules {
@@ -225,25 +241,25 @@ fn ruled(name: &[u8], first: u16, count: usize) {
     };
     row.rules = named;
     m.rows[0] = row;
-    fill_in(m, ON, 2 * RUN);
+    fill_in(rt, m, ON, 2 * RUN)
 }
 
 // A matrix without catch-all, with one thing more against it: that number comes first.
-pub(crate) fn orders() {
-    counted(b"no catch-all, 17 columns: ", 17, 1);
-    counted(b"no catch-all, 65 rows: ", 1, 65);
-    counted(b"no rows: ", 1, 0);
-    rowed(b"no catch-all, pattern of 2: ", 1, 2);
-    valued(b"no catch-all, net %10000: ", 10003);
-    valued(b"no catch-all, no net: ", 18195);
+pub(crate) fn orders(rt: &impl Print) -> io::Result<()> {
+    counted(rt, b"no catch-all, 17 columns: ", 17, 1)?;
+    counted(rt, b"no catch-all, 65 rows: ", 1, 65)?;
+    counted(rt, b"no rows: ", 1, 0)?;
+    rowed(rt, b"no catch-all, pattern of 2: ", 1, 2)?;
+    valued(rt, b"no catch-all, net %10000: ", 10003)?;
+    valued(rt, b"no catch-all, no net: ", 18195)
 }
 
-pub(crate) fn more_orders() {
-    rowed(b"no catch-all, no trit: ", 3, 1);
-    rowed(b"no trit, pattern of 17: ", 3, 17);
-    ruled(b"no catch-all, constant rule: ", 1, 1);
-    ruled(b"no catch-all, rule %10000: ", 10003, 1);
-    ruled(b"no catch-all, 8 rules: ", 13, 8);
-    ruled(b"no catch-all, count of 9 rules: ", 13, 9);
-    ruled(b"no catch-all, rules not ascending: ", 15, 2);
+pub(crate) fn more_orders(rt: &impl Print) -> io::Result<()> {
+    rowed(rt, b"no catch-all, no trit: ", 3, 1)?;
+    rowed(rt, b"no trit, pattern of 17: ", 3, 17)?;
+    ruled(rt, b"no catch-all, constant rule: ", 1, 1)?;
+    ruled(rt, b"no catch-all, rule %10000: ", 10003, 1)?;
+    ruled(rt, b"no catch-all, 8 rules: ", 13, 8)?;
+    ruled(rt, b"no catch-all, count of 9 rules: ", 13, 9)?;
+    ruled(rt, b"no catch-all, rules not ascending: ", 15, 2)
 }

@@ -1,100 +1,99 @@
 // What the calls answer, a line each.
 use crate::numbers;
+use std::io;
 
-const OUT: i32 = 1;
-
-pub(crate) fn text(s: &[u8]) {
-    io::write_all(OUT, s);
+pub(crate) fn text(rt: &impl Print, s: &[u8]) -> io::Result<()> {
+    rt.write_all(s)
 }
 
-pub(crate) fn decimal(n: usize) {
-    io::print_decimal(OUT, n as u64);
+pub(crate) fn decimal(rt: &impl Print, n: usize) -> io::Result<()> {
+    print!(rt; "{n}")
 }
 
-pub(crate) fn line(s: &[u8]) {
-    text(s);
-    text(b"\n");
+pub(crate) fn line(rt: &impl Print, s: &[u8]) -> io::Result<()> {
+    text(rt, s)?;
+    text(rt, b"\n")
 }
 
-pub(crate) fn refused(no: u8) {
-    text(b"refused ");
-    decimal(no as usize);
-    text(b"\n");
+pub(crate) fn refused(rt: &impl Print, no: u8) -> io::Result<()> {
+    text(rt, b"refused ")?;
+    decimal(rt, no as usize)?;
+    text(rt, b"\n")
 }
 
 // The first n bytes, where there are as many.
-pub(crate) fn bytes(out: &[u8], n: usize) {
+pub(crate) fn bytes(rt: &impl Print, out: &[u8], n: usize) -> io::Result<()> {
     if n <= out.len() {
-        io::write_all(OUT, &out[..n]);
+        return text(rt, &out[..n]);
     }
+    Ok(())
 }
 
-fn tree_of(n: usize) {
-    text(b"tree of ");
-    decimal(n);
-    text(b"\n");
+fn tree_of(rt: &impl Print, n: usize) -> io::Result<()> {
+    text(rt, b"tree of ")?;
+    decimal(rt, n)?;
+    text(rt, b"\n")
 }
 
-pub(crate) fn checked(c: tree::Checked) {
+pub(crate) fn checked(rt: &impl Print, c: tree::Checked) -> io::Result<()> {
     match c {
-        tree::Checked::Tree(n) => tree_of(n),
-        tree::Checked::Refused(no) => refused(no),
+        tree::Checked::Tree(n) => tree_of(rt, n),
+        tree::Checked::Refused(no) => refused(rt, no),
     }
 }
 
-pub(crate) fn built(root: rules::Place, size: usize) {
-    text(b"root ");
-    decimal(root.0);
-    text(b", size ");
-    decimal(size);
-    text(b"\n");
+pub(crate) fn built(rt: &impl Print, root: rules::Place, size: usize) -> io::Result<()> {
+    text(rt, b"root ")?;
+    decimal(rt, root.0)?;
+    text(rt, b", size ")?;
+    decimal(rt, size)?;
+    text(rt, b"\n")
 }
 
 // The value's nets as codes, with those past its width.
-pub(crate) fn emitted(e: emit::Emitted) {
+pub(crate) fn emitted(rt: &impl Print, e: emit::Emitted) -> io::Result<()> {
     if e.no != 0 {
-        refused(e.no);
-        return;
+        return refused(rt, e.no);
     }
     let nets = e.nets;
-    text(b"width ");
-    decimal(e.width);
-    text(b", used ");
-    decimal(e.used);
-    text(b", nets ");
-    numbers::show(&nets);
+    text(rt, b"width ")?;
+    decimal(rt, e.width)?;
+    text(rt, b", used ")?;
+    decimal(rt, e.used)?;
+    text(rt, b", nets ")?;
+    numbers::show(rt, &nets)
 }
 
-pub(crate) fn together(t: emit::Together) {
+pub(crate) fn together(rt: &impl Print, t: emit::Together) -> io::Result<()> {
     match t {
-        emit::Together::Length(n) => length(n),
-        emit::Together::Refused(no) => refused(no),
+        emit::Together::Length(n) => length(rt, n),
+        emit::Together::Refused(no) => refused(rt, no),
     }
 }
 
-fn length(n: usize) {
-    text(b"length ");
-    decimal(n);
-    text(b"\n");
+fn length(rt: &impl Print, n: usize) -> io::Result<()> {
+    text(rt, b"length ")?;
+    decimal(rt, n)?;
+    text(rt, b"\n")
 }
 
 // A printed tree stands at the start of the bytes.
-pub(crate) fn printed(p: text::Printed, out: &[u8]) {
+pub(crate) fn printed(rt: &impl Print, p: text::Printed, out: &[u8]) -> io::Result<()> {
     match p {
-        text::Printed::Done(n) => bytes(out, n),
-        text::Printed::Refused(no) => refused(no),
+        text::Printed::Done(n) => bytes(rt, out, n),
+        text::Printed::Refused(no) => refused(rt, no),
     }
 }
 
-fn bytes_of(n: usize) {
-    decimal(n);
-    text(b" bytes\n");
+fn bytes_of(rt: &impl Print, n: usize) -> io::Result<()> {
+    decimal(rt, n)?;
+    text(rt, b" bytes\n")
 }
 
 // How long a text is.
-pub(crate) fn counted(p: text::Printed) {
+pub(crate) fn counted(rt: &impl Print, p: text::Printed) -> io::Result<()> {
     match p {
-        text::Printed::Done(n) => bytes_of(n),
-        text::Printed::Refused(no) => refused(no),
+        text::Printed::Done(n) => bytes_of(rt, n),
+        text::Printed::Refused(no) => refused(rt, no),
     }
 }

@@ -2,6 +2,8 @@
 // A file that is missing, cut or not as described is a difference.
 #![tactic(auto)]
 
+ghost use Rattle.std.specs.Prelude.{◌≤◌, IfOk, length};
+
 mod ask;
 mod cases;
 mod emission;
@@ -9,6 +11,9 @@ mod held;
 mod parse;
 mod tally;
 mod updates;
+
+use std::io;
+use std::io::Read;
 
 // Room for the file; one that fills it may go on.
 const FILE_MAX: usize = 425984;
@@ -22,7 +27,7 @@ const LIST_MAX: usize = rules::ROWS_MAX * rules::RULES_MAX;
 // One entry more than may be used.
 const STORE: usize = tree::inner::NODE_RUN * (rules::NODES_MAX + 1);
 
-fn main() {
+fn main(rt: HostRuntime) -> io::Result<()> {
     let mut file = [0u8; FILE_MAX];
     let mut out = [0u8; TEXT_ROOM];
     let mut store = [0u16; STORE];
@@ -30,7 +35,7 @@ fn main() {
     let mut outputs = [0u16; LIST_MAX];
     let mut list = [0u16; LIST_MAX];
     let mut tally = [0u64; tally::SLOTS];
-    let n = io::read_full(0, &mut file);
+    let n = load(&mut rt.reader(), &mut file)?;
     let s = &file[..n];
     let at = cases::all(
         s,
@@ -43,7 +48,22 @@ fn main() {
         &mut tally,
     );
     whole(s, at, &mut tally);
-    tally::write(&tally);
+    tally::write(&rt, &tally)
+}
+
+// Up to where the bytes lent are full or the input ends.
+fn load(input: &mut impl Read, bytes: &mut [u8]) -> io::Result<usize>
+    ensures { IfOk result (λ n. n ≤ length bytes.new) }
+{
+    let mut n = 0;
+    while n < bytes.len() {
+        let more = input.read(&mut bytes[n..])?;
+        if more == 0 {
+            return Ok(n);
+        }
+        n += more;
+    }
+    Ok(n)
 }
 
 // After the last case stands how many there are, and nothing more.

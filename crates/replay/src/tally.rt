@@ -1,4 +1,6 @@
-// How many questions of each kind were asked and how many answers differed; the first differences are written out.
+// How many questions of each kind were asked and how many answers differed; the first differences are noted, and written out before the counts.
+use std::io;
+
 pub(crate) const KINDS: usize = 15;
 
 pub(crate) const TEXT: usize = 0;
@@ -36,9 +38,12 @@ const CASES: usize = 2 * KINDS;
 
 const DIFFERENCES: usize = CASES + 1;
 
-pub(crate) const SLOTS: usize = DIFFERENCES + 1;
+// Then the first differences: of each the case and the letter of a line.
+const FIRST: usize = DIFFERENCES + 1;
 
-const SHOWN: u64 = 20;
+const SHOWN: usize = 20;
+
+pub(crate) const SLOTS: usize = FIRST + 2 * SHOWN;
 
 fn get(tally: &[u64], i: usize) -> u64 {
     if i < tally.len() {
@@ -47,12 +52,16 @@ fn get(tally: &[u64], i: usize) -> u64 {
     0
 }
 
-fn bump(tally: &mut [u64], i: usize) {
+fn put(tally: &mut [u64], i: usize, n: u64) {
     if i < tally.len() {
-        let n = tally[i];
-        if n < u64::MAX {
-            tally[i] = n + 1;
-        }
+        tally[i] = n;
+    }
+}
+
+fn bump(tally: &mut [u64], i: usize) {
+    let n = get(tally, i);
+    if n < u64::MAX {
+        put(tally, i, n + 1);
     }
 }
 
@@ -66,13 +75,12 @@ pub(crate) fn begin(tally: &mut [u64]) {
 
 // A difference, at a case and the letter of a line.
 pub(crate) fn differ(tally: &mut [u64], letter: u8) {
+    let k = get(tally, DIFFERENCES) as usize;
     bump(tally, DIFFERENCES);
-    if get(tally, DIFFERENCES) <= SHOWN {
-        io::write_all(1, b"case ");
-        io::print_decimal(1, get(tally, CASES));
-        io::write_all(1, b" differs at ");
-        let line = [letter, b'\n'];
-        io::write_all(1, &line);
+    if k < SHOWN {
+        let case = cases(tally);
+        put(tally, FIRST + 2 * k, case);
+        put(tally, FIRST + 2 * k + 1, letter as u64);
     }
 }
 
@@ -88,35 +96,49 @@ pub(crate) fn mark(tally: &mut [u64], kind: usize, letter: u8, right: bool) {
     differ(tally, letter);
 }
 
-fn line(tally: &[u64], kind: usize, label: &[u8]) {
+fn line(rt: &impl Print, tally: &[u64], kind: usize, label: &str) -> io::Result<()> {
     if KINDS <= kind {
-        return;
+        return Ok(());
     }
-    io::write_all(1, label);
-    io::print_decimal(1, get(tally, kind));
-    io::write_all(1, b" asked, ");
-    io::print_decimal(1, get(tally, KINDS + kind));
-    io::write_all(1, b" differed\n");
+    let asked = get(tally, kind);
+    let differed = get(tally, KINDS + kind);
+    println!(rt; "{label}: {asked} asked, {differed} differed")
 }
 
-pub(crate) fn write(tally: &[u64]) {
-    line(tally, TEXT, b"M text read and printed back: ");
-    line(tally, MERGE, b"J merge: ");
-    line(tally, ENABLE, b"E enable added, then normalized: ");
-    line(tally, OUTPUTS, b"O outputs: ");
-    line(tally, REFUSED, b"R dispatch refused: ");
-    line(tally, TREE, b"P dispatch into 1,024 entries: ");
-    line(tally, PEAK, b"P dispatch into as many as the peak: ");
-    line(tally, SHORT, b"P dispatch into one fewer, refused: ");
-    line(tally, CHECK, b"P check of the tree: ");
-    line(tally, PRINT, b"T tree printed: ");
-    line(tally, ONE_HOT, b"H one-hot emission: ");
-    line(tally, ASSUME, b"A assume: ");
-    line(tally, DISJOINT, b"I disjoint emission: ");
-    line(tally, PREFIX, b"L disjoint prefix: ");
-    line(tally, DAMAGED, b"D damaged text read: ");
-    io::print_decimal(1, get(tally, CASES));
-    io::write_all(1, b" cases, ");
-    io::print_decimal(1, get(tally, DIFFERENCES));
-    io::write_all(1, b" differences\n");
+fn difference(rt: &impl Print, case: u64, letter: u64) -> io::Result<()> {
+    print!(rt; "case {case} differs at ")?;
+    rt.write_all(&[(letter % 256) as u8, b'\n'])
+}
+
+fn differences(rt: &impl Print, tally: &[u64]) -> io::Result<()> {
+    let n = get(tally, DIFFERENCES) as usize;
+    for k in 0..SHOWN {
+        if k < n {
+            let case = get(tally, FIRST + 2 * k);
+            let letter = get(tally, FIRST + 2 * k + 1);
+            difference(rt, case, letter)?;
+        }
+    }
+    Ok(())
+}
+
+pub(crate) fn write(rt: &impl Print, tally: &[u64]) -> io::Result<()> {
+    differences(rt, tally)?;
+    line(rt, tally, TEXT, "M text read and printed back")?;
+    line(rt, tally, MERGE, "J merge")?;
+    line(rt, tally, ENABLE, "E enable added, then normalized")?;
+    line(rt, tally, OUTPUTS, "O outputs")?;
+    line(rt, tally, REFUSED, "R dispatch refused")?;
+    line(rt, tally, TREE, "P dispatch into 1,024 entries")?;
+    line(rt, tally, PEAK, "P dispatch into as many as the peak")?;
+    line(rt, tally, SHORT, "P dispatch into one fewer, refused")?;
+    line(rt, tally, CHECK, "P check of the tree")?;
+    line(rt, tally, PRINT, "T tree printed")?;
+    line(rt, tally, ONE_HOT, "H one-hot emission")?;
+    line(rt, tally, ASSUME, "A assume")?;
+    line(rt, tally, DISJOINT, "I disjoint emission")?;
+    line(rt, tally, PREFIX, "L disjoint prefix")?;
+    line(rt, tally, DAMAGED, "D damaged text read")?;
+    let differences = get(tally, DIFFERENCES);
+    println!(rt; "{} cases, {differences} differences", cases(tally))
 }

@@ -17,19 +17,21 @@ mod steps;
 mod tally;
 mod wrong;
 
-fn main() {
-    bench::all();
-    news::all();
-    adds::all();
-    handed::all();
-    merges::all();
-    steps::all();
-    outs::all();
-    of_texts();
+use std::io;
+
+fn main(rt: HostRuntime) -> io::Result<()> {
+    bench::all(&rt)?;
+    news::all(&rt)?;
+    adds::all(&rt)?;
+    handed::all(&rt)?;
+    merges::all(&rt)?;
+    steps::all(&rt)?;
+    outs::all(&rt)?;
+    of_texts(&rt)
 }
 
-fn of_texts() {
-    prints::all();
-    reads::all();
-    wrong::all();
+fn of_texts(rt: &impl Print) -> io::Result<()> {
+    prints::all(rt)?;
+    reads::all(rt)?;
+    wrong::all(rt)
 }

@@ -1,5 +1,6 @@
 // `outputs`: none, and as many as there can be.
 use crate::say;
+use std::io;
 
 // The code of cell 0.
 const FIRST: u16 = 3;
@@ -10,40 +11,40 @@ const RULES: u16 = rules::RULES_MAX as u16;
 
 const MOST: usize = rules::ROWS_MAX * rules::RULES_MAX;
 
-pub(crate) fn all() {
-    none();
-    few();
-    most();
+pub(crate) fn all(rt: &impl Print) -> io::Result<()> {
+    none(rt)?;
+    few(rt)?;
+    most(rt)
 }
 
-fn told(label: &[u8], o: matrix::Outputs) {
-    say::text(label);
-    say::next(o.no as usize);
-    say::text(b" count");
-    say::next(o.count);
-    say::text(b"\n");
+fn told(rt: &impl Print, label: &[u8], o: matrix::Outputs) -> io::Result<()> {
+    say::text(rt, label)?;
+    say::next(rt, o.no as usize)?;
+    say::text(rt, b" count")?;
+    say::next(rt, o.count)?;
+    say::text(rt, b"\n")
 }
 
-fn none() {
-    told(b"outputs of no rows:", say::blank().outputs());
+fn none(rt: &impl Print) -> io::Result<()> {
+    told(rt, b"outputs of no rows:", say::blank().outputs())?;
     let m = text::read(b"[ %0 ]:\n  0 => (empty)\n  X => (empty)\n");
-    told(b"outputs of rows without rules:", m.matrix.outputs());
+    told(rt, b"outputs of rows without rules:", m.matrix.outputs())
 }
 
-fn code(label: &[u8], net: u16) {
-    say::count(label, net as usize);
+fn code(rt: &impl Print, label: &[u8], net: u16) -> io::Result<()> {
+    say::count(rt, label, net as usize)
 }
 
 // The codes of %1, %7 and %9999, each once, and 0 after them.
-fn few() {
+fn few(rt: &impl Print) -> io::Result<()> {
     let m = text::read(b"[ %0 ]:\n  0 => %7 %9999\n  1 => %1 %7\n  X => %9999\n");
     let o = m.matrix.outputs();
-    told(b"outputs of %7 %9999, %1 %7, %9999:", o);
+    told(rt, b"outputs of %7 %9999, %1 %7, %9999:", o)?;
     let nets = o.nets;
-    code(b"first", nets[0]);
-    code(b"second", nets[1]);
-    code(b"third", nets[2]);
-    code(b"fourth", nets[3]);
+    code(rt, b"first", nets[0])?;
+    code(rt, b"second", nets[1])?;
+    code(rt, b"third", nets[2])?;
+    code(rt, b"fourth", nets[3])
 }
 
 // Eight rules, the k-th eight from the end, descending.
@@ -82,11 +83,11 @@ fn counted(n: u64, net: u16, i: usize) -> u64 {
     n
 }
 
-fn most() {
+fn most(rt: &impl Print) -> io::Result<()> {
     let o = full().outputs();
-    told(b"outputs of 64 rows of 8:", o);
+    told(rt, b"outputs of 64 rows of 8:", o)?;
     let nets = o.nets;
-    code(b"first", nets[0]);
-    code(b"last", nets[MOST - 1]);
-    say::count(b"at the place of its number", in_place(&nets) as usize);
+    code(rt, b"first", nets[0])?;
+    code(rt, b"last", nets[MOST - 1])?;
+    say::count(rt, b"at the place of its number", in_place(&nets) as usize)
 }

@@ -1,15 +1,16 @@
 // `print`: the room it needs, and the bytes that it leaves as they were.
 use crate::say;
+use std::io;
 
-pub(crate) fn all() {
-    exact();
-    short();
-    longer();
-    nothing();
-    order();
-    longest_exact();
-    longest_short();
-    longest_longer();
+pub(crate) fn all(rt: &impl Print) -> io::Result<()> {
+    exact(rt)?;
+    short(rt)?;
+    longer(rt)?;
+    nothing(rt)?;
+    order(rt)?;
+    longest_exact(rt)?;
+    longest_short(rt)?;
+    longest_longer(rt)
 }
 
 fn base() -> matrix::Matrix {
@@ -17,67 +18,70 @@ fn base() -> matrix::Matrix {
 }
 
 // The number, and how many bytes were written.
-fn put(label: &[u8], m: matrix::Matrix, out: &mut [u8]) {
-    say::text(label);
+fn put(rt: &impl Print, label: &[u8], m: matrix::Matrix, out: &mut [u8]) -> io::Result<()> {
+    say::text(rt, label)?;
     match text::print(m, out) {
-        text::Printed::Done(n) => say::count(b" 0 bytes", n),
-        text::Printed::Refused(no) => say::number(b"", no),
+        text::Printed::Done(n) => say::count(rt, b" 0 bytes", n),
+        text::Printed::Refused(no) => say::number(rt, b"", no),
     }
 }
 
-fn exact() {
+fn exact(rt: &impl Print) -> io::Result<()> {
     let mut out = [b'#'; 38];
-    put(b"print into 38 bytes:", base(), &mut out);
-    say::text(&out);
+    put(rt, b"print into 38 bytes:", base(), &mut out)?;
+    say::text(rt, &out)
 }
 
-fn short() {
+fn short(rt: &impl Print) -> io::Result<()> {
     let mut out = [b'#'; 37];
-    put(b"print into 37 bytes:", base(), &mut out);
-    say::text(&out);
-    say::text(b"\n");
+    put(rt, b"print into 37 bytes:", base(), &mut out)?;
+    say::text(rt, &out)?;
+    say::text(rt, b"\n")
 }
 
-fn longer() {
+fn longer(rt: &impl Print) -> io::Result<()> {
     let mut out = [b'#'; 40];
-    put(b"print into 40 bytes:", base(), &mut out);
-    say::text(&out);
-    say::text(b"\n");
+    put(rt, b"print into 40 bytes:", base(), &mut out)?;
+    say::text(rt, &out)?;
+    say::text(rt, b"\n")
 }
 
-fn nothing() {
+fn nothing(rt: &impl Print) -> io::Result<()> {
     let mut none = [0u8; 0];
-    put(b"print into no bytes:", base(), &mut none);
+    put(rt, b"print into no bytes:", base(), &mut none)?;
     let mut four = [b'#'; 4];
     put(
+        rt,
         b"print of no columns and rows into 4 bytes:",
         say::blank(),
         &mut four,
-    );
-    say::text(&four);
-    say::text(b"\n");
+    )?;
+    say::text(rt, &four)?;
+    say::text(rt, b"\n")?;
     let mut five = [b'#'; 5];
     put(
+        rt,
         b"print of no columns and rows into 5 bytes:",
         say::blank(),
         &mut five,
-    );
-    say::text(&five);
+    )?;
+    say::text(rt, &five)
 }
 
 // "Print of a matrix with %10000 into no room: 4"
-fn order() {
+fn order(rt: &impl Print) -> io::Result<()> {
     let mut none = [0u8; 0];
     let mut m = base();
     m.value[0] = 10003;
-    put(b"print of %10000 into no bytes:", m, &mut none);
+    put(rt, b"print of %10000 into no bytes:", m, &mut none)?;
     m.value[0] = 18195;
     m.count = 65;
     put(
+        rt,
         b"print of a code that is no net, rows 65, into no bytes:",
         m,
         &mut none,
-    );
+    )
 }
 
 fn with_row(m: matrix::Matrix) -> matrix::Matrix {
@@ -99,41 +103,43 @@ fn longest() -> matrix::Matrix {
 }
 
 // What was printed is read again.
-fn longest_exact() {
+fn longest_exact(rt: &impl Print) -> io::Result<()> {
     let mut out = [b'#'; say::TEXT_MAX];
     let m = longest();
-    put(b"print of the longest into 4773 bytes:", m, &mut out);
+    put(rt, b"print of the longest into 4773 bytes:", m, &mut out)?;
     let r = text::read(&out);
     let again = r.matrix;
     let made = matrix::Made {
         no: r.no,
         matrix: again,
     };
-    say::made(b"read again:", made, m);
+    say::made(rt, b"read again:", made, m)
 }
 
-fn byte(label: &[u8], b: u8) {
-    say::count(label, b as usize);
+fn byte(rt: &impl Print, label: &[u8], b: u8) -> io::Result<()> {
+    say::count(rt, label, b as usize)
 }
 
-fn longest_short() {
+fn longest_short(rt: &impl Print) -> io::Result<()> {
     let mut out = [b'#'; say::TEXT_MAX - 1];
     put(
+        rt,
         b"print of the longest into 4772 bytes:",
         longest(),
         &mut out,
-    );
-    byte(b"first byte", out[0]);
-    byte(b"last byte", out[4771]);
+    )?;
+    byte(rt, b"first byte", out[0])?;
+    byte(rt, b"last byte", out[4771])
 }
 
-fn longest_longer() {
+fn longest_longer(rt: &impl Print) -> io::Result<()> {
     let mut out = [b'#'; say::TEXT_MAX + 1];
     put(
+        rt,
         b"print of the longest into 4774 bytes:",
         longest(),
         &mut out,
-    );
-    byte(b"last byte of the text", out[4772]);
-    byte(b"byte after the text", out[4773]);
+    )?;
+    byte(rt, b"last byte of the text", out[4772])?;
+    byte(rt, b"byte after the text", out[4773])
 }

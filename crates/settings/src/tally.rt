@@ -1,4 +1,7 @@
 // How many calls were accepted, and how many were refused by which number.
+use crate::say;
+use std::io;
+
 #[derive(Clone, Copy)]
 pub struct Tally {
     accepted: u64,
@@ -38,16 +41,15 @@ pub(crate) fn with(t: Tally, no: u8) -> Tally {
     n
 }
 
-fn part(n: u64, word: &[u8]) {
-    io::write_all(1, b" ");
-    io::print_decimal(1, n);
-    io::write_all(1, word);
+fn part(rt: &impl Print, n: u64, word: &[u8]) -> io::Result<()> {
+    say::next(rt, n as usize)?;
+    say::text(rt, word)
 }
 
-pub(crate) fn told(label: &[u8], t: Tally) {
-    io::write_all(1, label);
-    part(t.accepted, b" accepted,");
-    part(t.net, b" refused 4,");
-    part(t.form, b" refused 12,");
-    part(t.other, b" others\n");
+pub(crate) fn told(rt: &impl Print, label: &[u8], t: Tally) -> io::Result<()> {
+    say::text(rt, label)?;
+    part(rt, t.accepted, b" accepted,")?;
+    part(rt, t.net, b" refused 4,")?;
+    part(rt, t.form, b" refused 12,")?;
+    part(rt, t.other, b" others\n")
 }

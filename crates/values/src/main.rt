@@ -10,25 +10,27 @@ mod nine;
 mod places;
 mod tables;
 
-fn main() {
-    codes::all();
-    nine::values();
-    nets();
-    arms::unknown();
-    arms::known();
-    entries();
+use std::io;
+
+fn main(rt: HostRuntime) -> io::Result<()> {
+    codes::all(&rt)?;
+    nine::values(&rt)?;
+    nets(&rt)?;
+    arms::unknown(&rt)?;
+    arms::known(&rt)?;
+    entries(&rt)
 }
 
-fn nets() {
-    cells::given();
-    cells::constants();
-    cells::driven();
-    places::all();
+fn nets(rt: &impl Print) -> io::Result<()> {
+    cells::given(rt)?;
+    cells::constants(rt)?;
+    cells::driven(rt)?;
+    places::all(rt)
 }
 
-fn entries() {
-    tables::counts();
-    tables::operands();
-    tables::full();
-    tables::long();
+fn entries(rt: &impl Print) -> io::Result<()> {
+    tables::counts(rt)?;
+    tables::operands(rt)?;
+    tables::full(rt)?;
+    tables::long(rt)
 }
