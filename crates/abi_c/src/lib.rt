@@ -22,7 +22,11 @@ pub extern "C" fn doorpigeon_new(nets: &[u16]) -> matrix::Made
 }
 
 #[unsafe(no_mangle)]
-pub extern "C" fn doorpigeon_add(matrix: matrix::Matrix, pattern: &[u8], rules: &[u16]) -> matrix::Made
+pub extern "C" fn doorpigeon_add(
+    matrix: matrix::Matrix,
+    pattern: &[u8],
+    rules: &[u16],
+) -> matrix::Made
     ensures { result ≡ made_from (add_answer pattern.now rules.now (given matrix)) }
 {
     abi::doorpigeon_add(matrix, pattern, rules)
@@ -57,14 +61,22 @@ pub extern "C" fn doorpigeon_add_enable(matrix: matrix::Matrix, enable: u32) -> 
 }
 
 #[unsafe(no_mangle)]
-pub extern "C" fn doorpigeon_merge(matrix: matrix::Matrix, at: u32, child: matrix::Matrix) -> matrix::Made
+pub extern "C" fn doorpigeon_merge(
+    matrix: matrix::Matrix,
+    at: u32,
+    child: matrix::Matrix,
+) -> matrix::Made
     ensures { result ≡ made_from (merge_answer (min at last) (given matrix) (given child)) }
 {
     abi::doorpigeon_merge(matrix, at, child)
 }
 
 #[unsafe(no_mangle)]
-pub extern "C" fn doorpigeon_dispatch(matrix: matrix::Matrix, enable: u32, store: &mut [u16]) -> abi::Dispatched
+pub extern "C" fn doorpigeon_dispatch(
+    matrix: matrix::Matrix,
+    enable: u32,
+    store: &mut [u16],
+) -> abi::Dispatched
     ensures { (result ≡ dispatched (dispatch_answer (min enable last) (given matrix) store.old)) × (store.new ≡ dispatch_store (min enable last) (given matrix) store.old) }
 {
     abi::doorpigeon_dispatch(matrix, enable, store)
@@ -78,28 +90,53 @@ pub extern "C" fn doorpigeon_check(store: &[u16], root: usize) -> abi::Answered
 }
 
 #[unsafe(no_mangle)]
-pub extern "C" fn doorpigeon_one_hot(store: &[u16], root: usize, outputs: &[u16], count: usize, table: &mut [u16]) -> emit::Emitted
+pub extern "C" fn doorpigeon_one_hot(
+    store: &[u16],
+    root: usize,
+    outputs: &[u16],
+    count: usize,
+    table: &mut [u16],
+) -> emit::Emitted
     ensures { (result ≡ emitted_from (one_hot_answer store.now root outputs.now count table.old)) × (table.new ≡ one_hot_after store.now root outputs.now count table.old) }
 {
     abi::doorpigeon_one_hot(store, root, outputs, count, table)
 }
 
 #[unsafe(no_mangle)]
-pub extern "C" fn doorpigeon_disjoint(store: &[u16], root: usize, nets: &[u16], widths: &[usize], bits: &[u16], default: &[u16], count: usize, table: &mut [u16]) -> emit::Emitted
+pub extern "C" fn doorpigeon_disjoint(
+    store: &[u16],
+    root: usize,
+    nets: &[u16],
+    widths: &[usize],
+    bits: &[u16],
+    default: &[u16],
+    count: usize,
+    table: &mut [u16],
+) -> emit::Emitted
     ensures { (result ≡ emitted_from (disjoint_answer store.now root nets.now widths.now bits.now default.now count table.old)) × (table.new ≡ disjoint_after store.now root nets.now widths.now bits.now default.now count table.old) }
 {
     abi::doorpigeon_disjoint(store, root, nets, widths, bits, default, count, table)
 }
 
 #[unsafe(no_mangle)]
-pub extern "C" fn doorpigeon_prefix(store: &[u16], root: usize, outputs: &[u16], enables: &[u16]) -> abi::Answered
+pub extern "C" fn doorpigeon_prefix(
+    store: &[u16],
+    root: usize,
+    outputs: &[u16],
+    enables: &[u16],
+) -> abi::Answered
     ensures { result ≡ answered (prefix_answer store.now root outputs.now enables.now) }
 {
     abi::doorpigeon_prefix(store, root, outputs, enables)
 }
 
 #[unsafe(no_mangle)]
-pub extern "C" fn doorpigeon_evaluate(table: &[u16], count: usize, trits: &[u8], asked: u32) -> abi::Answered
+pub extern "C" fn doorpigeon_evaluate(
+    table: &[u16],
+    count: usize,
+    trits: &[u8],
+    asked: u32,
+) -> abi::Answered
     ensures { result ≡ answered (evaluate_answer count table.now trits.now (min asked last)) }
 {
     abi::doorpigeon_evaluate(table, count, trits, asked)
