@@ -1,4 +1,6 @@
 // What the program writes: texts, lines of nets, and 01's numbers by name.
+ghost use Rattle.std.specs.Prelude.{◌≤◌, IfOk, length};
+
 use std::io;
 use std::io::Write;
 
@@ -30,7 +32,9 @@ pub(crate) fn unread(err: &impl Print, name: &[u8], reason: &io::Error) -> io::R
     )
 }
 
-fn put(reason: &io::Error, text: &mut [u8]) -> io::Result<usize> {
+fn put(reason: &io::Error, text: &mut [u8]) -> io::Result<usize>
+    ensures { IfOk result (λ n. n ≤ length text.new) }
+{
     let len = text.len();
     let mut rest = text;
     write!(rest, "{reason}")?;
