@@ -3,7 +3,6 @@
 use Rattle.std.specs.Prelude.{ℕ, ◌+◌, ◌<◌, ◌≤◌, true, List, ◌≡◌, refl, eqb, get_or, length, take}
 use Rattle.std.proofs.Common.{sym, ap, ap₂, ◌∙◌, arith}
 use borrow.Author.Tests.{eqb-false, ltb-false}
-use Rattle.claims.specs.Claims.{first_match_lem, known_stays}
 use Rattle.dispatch.specs.Good.{built_read}
 use Rattle.emit.specs.Calls.{emitted_from}
 use Rattle.emit.specs.declared.Emitted.{Emitted}
@@ -85,7 +84,7 @@ module _ (m : Matrix) (slots : Slots (given m)) (enable : Net) (store after : Li
       → (i : ℕ) → i < length outs → (asked : Net) → net_code asked ≡ get_or sends.nets i 0 → (v : Value) → value_read v ≡ evaluate_answer sends.used then ts (net_code asked)
       → value_read v ≡ done (owes σ e (view m) (get_or outs i 0))
   code_first_match ts k σ w i h asked q v ensured =
-      ensured ∙ asks ts i h asked q ∙ first_match_lem e (given m) slots store root.0 size answered outs count table pair.0 pair.1 hot ts k σ w i h
+      ensured ∙ asks ts i h asked q ∙ output_is e (given m) slots store root.0 size answered outs count table pair.0 pair.1 hot ts σ k w i h
 
   -- C3: and a bit that it answers it answers at every filling
   pub code_known_stays : (ts us : List ℕ) → all is_trit (take mux_first ts) ≡ true → Filling ts us → (i b : ℕ) → i < length outs → (asked : Net) → net_code asked ≡ get_or sends.nets i 0
@@ -93,4 +92,4 @@ module _ (m : Matrix) (slots : Slots (given m)) (enable : Net) (store after : Li
       → value_read v ≡ done b → (b ≡ 2 → ⊥) → value_read u ≡ done b
   code_known_stays ts us k f i b h asked q v u ev eu is known =
       eu ∙ asks us i h asked q
-      ∙ known_stays e (given m) slots store root.0 size answered outs count table pair.0 pair.1 hot ts us k f i b h (sym (ev ∙ asks ts i h asked q) ∙ is) known
+      ∙ output_stays e (given m) slots store root.0 size answered outs count table pair.0 pair.1 hot ts us k f i b h (sym (ev ∙ asks ts i h asked q) ∙ is) known
