@@ -15,6 +15,7 @@ use Rattle.matrix.specs.Mat.{given, view}
 use Rattle.matrix.specs.declared.Matrix.{Matrix}
 use Rattle.rules.proofs.Lowers.{unrefused_is}
 use Rattle.rules.proofs.Picks.{none_applies}
+use Rattle.rules.proofs.Promised.{output_is, output_stays}
 use Rattle.rules.specs.Answers.{added, dispatch_answer, dispatch_store, evaluate_answer, one_hot_after, one_hot_answer}
 use Rattle.rules.specs.Bounds.{mux_first, width_max}
 use Rattle.rules.specs.Codes.{net_code}

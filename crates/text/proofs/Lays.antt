@@ -135,13 +135,13 @@ last_is xs n =
     let i : length xs - node_run + 1 + n - (length xs - node_run + 1) ≡ n = omega arith in
     ap (λ (k : ℕ). map cell (take k (drop (length xs - node_run + 1) xs))) i
 
-pub cell_at : (l : List ℕ) (i : ℕ) → i < length l → 3 + get_or l i 0 ≡ get_or (map cell l) i 0
-cell_at [] i h = absurd (omega arith)
-cell_at (x ∷ l) zero h = refl
-cell_at (x ∷ l) (suc i) h = cell_at l i (omega arith)
+pub cell_at_lem : (l : List ℕ) (i : ℕ) → i < length l → 3 + get_or l i 0 ≡ get_or (map cell l) i 0
+cell_at_lem [] i h = absurd (omega arith)
+cell_at_lem (x ∷ l) zero h = refl
+cell_at_lem (x ∷ l) (suc i) h = cell_at_lem l i (omega arith)
 
 pub cell-low : (l : List ℕ) (i : ℕ) → all_low (map cell l) ≡ true → i < length l → 3 + get_or l i 0 < first_mux
-cell-low l i h k = omega (arith, cell_at l i k, low-at (map cell l) i h (omega (arith, length-map l cell)))
+cell-low l i h k = omega (arith, cell_at_lem l i k, low-at (map cell l) i h (omega (arith, length-map l cell)))
 
 pub cells-few : (xs : List ℕ) (n : ℕ) → LeafFits xs n → length (take (length xs - node_run + 1 + n - (length xs - node_run + 1)) (drop (length xs - node_run + 1) xs)) ≤ rules_max
 cells-few xs n h =

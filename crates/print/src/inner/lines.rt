@@ -10,7 +10,7 @@ ghost use Rattle.rules.specs.Refusals.{all_low};
 use crate::inner::put;
 
 pub fn names(out: &mut [u8], at: usize, ns: &[u16]) -> usize
-    requires ns_value { all_low ns.now ≡ true }
+    requires low { all_low ns.now ≡ true }
     requires room { Room out.old at (rule_text ns.now) }
     ensures { Put out.old at (rule_text ns.now) out.new result }
 {
@@ -74,7 +74,7 @@ pub fn row(out: &mut [u8], at: usize, r: rows::Row) -> usize
 }
 
 pub fn value(out: &mut [u8], at: usize, ns: &[u16]) -> usize
-    requires ns_value { all_low ns.now ≡ true }
+    requires low { all_low ns.now ≡ true }
     requires room { Room out.old at (value_line ns.now) }
     ensures { Put out.old at (value_line ns.now) out.new result }
 {

@@ -99,7 +99,7 @@ fn spaced(out: &mut [u8], at: usize, n: u16) -> usize
 }
 
 pub fn nets(out: &mut [u8], at: usize, ns: &[u16]) -> usize
-    requires ns_value { all_low ns.now ≡ true }
+    requires low { all_low ns.now ≡ true }
     requires room { Room out.old at (nets_of ns.now) }
     ensures { Put out.old at (nets_of ns.now) out.new result }
 {
@@ -114,7 +114,7 @@ pub fn nets(out: &mut [u8], at: usize, ns: &[u16]) -> usize
 
 // From the highest column to the lowest.
 pub fn downs(out: &mut [u8], at: usize, ns: &[u16]) -> usize
-    requires ns_value { all_low ns.now ≡ true }
+    requires low { all_low ns.now ≡ true }
     requires room { Room out.old at (downs_of ns.now) }
     ensures { Put out.old at (downs_of ns.now) out.new result }
 {

@@ -15,7 +15,7 @@ unfolding bytes
 returns-then-ns-eq0 c = put_as (sym (rules_none c.args.ns.now c.if-ns-eq0.true)) c.bytes.ensures
 
 pub nets-requires : goal.nets-requires
-nets-requires c = record { ns_value = c.requires.ns_value; room = omega (arith, c.requires.room, ap length (rules_some c.args.ns.now c.if-ns-eq0.false)) }
+nets-requires c = record { low = c.requires.low; room = omega (arith, c.requires.room, ap length (rules_some c.args.ns.now c.if-ns-eq0.false)) }
 
 pub returns : goal.returns
 returns c = put_as (sym (rules_some c.args.ns.now c.if-ns-eq0.false)) c.nets.ensures

@@ -48,7 +48,7 @@ slice_bounds-names-end c =
 pub names-d-requires : goal.names-d-requires
 names-d-requires c =
     let r = c.args.r in
-    record { ns_value = c.requires.row_fits.low; room = omega (arith, c.requires.room, row_long (take r.len r.pattern) (take r.rules.count r.rules.items), c.bytes-a.auto, c.bytes-a.ensures.next, c.pattern-b.auto, c.pattern-b.ensures.next, c.bytes-c.auto, c.bytes-c.ensures.next) }
+    record { low = c.requires.row_fits.low; room = omega (arith, c.requires.room, row_long (take r.len r.pattern) (take r.rules.count r.rules.items), c.bytes-a.auto, c.bytes-a.ensures.next, c.pattern-b.auto, c.pattern-b.ensures.next, c.bytes-c.auto, c.bytes-c.ensures.next) }
 
 pub byte-requires : goal.byte-requires
 byte-requires c =

@@ -8,7 +8,7 @@ pub byte-a-requires : goal.byte-a-requires
 byte-a-requires c = omega (arith, c.requires.room, value_long c.args.ns.now)
 
 pub downs-b-requires : goal.downs-b-requires
-downs-b-requires c = record { ns_value = c.requires.ns_value; room = omega (arith, c.requires.room, value_long c.args.ns.now, c.byte-a.auto, c.byte-a.ensures.next) }
+downs-b-requires c = record { low = c.requires.low; room = omega (arith, c.requires.room, value_long c.args.ns.now, c.byte-a.auto, c.byte-a.ensures.next) }
 
 pub bytes-requires : goal.bytes-requires
 bytes-requires c = omega (arith, c.requires.room, value_long c.args.ns.now, c.byte-a.auto, c.byte-a.ensures.next, c.downs-b.auto, c.downs-b.ensures.next)

@@ -20,7 +20,7 @@ slice_bounds-value-end c =
     sym (length-take-le m.columns m.value (omega (arith, c.requires.fits.wide)))
 
 pub value-a-requires : goal.value-a-requires
-value-a-requires c = record { ns_value = c.requires.fits.low; room = omega (arith, c.requires.room, printed_long c.args.m) }
+value-a-requires c = record { low = c.requires.fits.low; room = omega (arith, c.requires.room, printed_long c.args.m) }
 
 pub body-requires : goal.body-requires
 body-requires c = record { fits = c.requires.fits; room = omega (arith, c.requires.room, printed_long c.args.m, c.value-a.auto, c.value-a.ensures.next) }

@@ -20,7 +20,7 @@ pub bounds-ns-i : goal.bounds-ns-i
 bounds-ns-i c = omega arith
 
 pub spaced-a-requires : goal.spaced-a-requires
-spaced-a-requires c = record { n_lt_first_mux = low-at c.args.ns.now (c.loop-i.i - 1) c.requires.ns_value (omega arith); room = todo_room (spaced _) _ (todo_as (downs-take c.args.ns.now c.loop-i.i c.loop-i-test.true c.loop-i.invariant.0) c.loop-i.invariant.1) c.requires.room }
+spaced-a-requires c = record { n_lt_first_mux = low-at c.args.ns.now (c.loop-i.i - 1) c.requires.low (omega arith); room = todo_room (spaced _) _ (todo_as (downs-take c.args.ns.now c.loop-i.i c.loop-i-test.true c.loop-i.invariant.0) c.loop-i.invariant.1) c.requires.room }
 
 pub loop-i-smaller : goal.loop-i-smaller
 loop-i-smaller c = omega arith

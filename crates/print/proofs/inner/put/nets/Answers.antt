@@ -15,7 +15,7 @@ pub bounds-ns-i : goal.bounds-ns-i
 bounds-ns-i c = omega arith
 
 pub spaced-a-requires : goal.spaced-a-requires
-spaced-a-requires c = record { n_lt_first_mux = low-at c.args.ns.now c.loop-i.i c.requires.ns_value c.loop-i-test.true; room = todo_room (spaced _) _ (todo_as (nets_next c.args.ns.now c.loop-i.i c.loop-i-test.true) c.loop-i.invariant.1) c.requires.room }
+spaced-a-requires c = record { n_lt_first_mux = low-at c.args.ns.now c.loop-i.i c.requires.low c.loop-i-test.true; room = todo_room (spaced _) _ (todo_as (nets_next c.args.ns.now c.loop-i.i c.loop-i-test.true) c.loop-i.invariant.1) c.requires.room }
 
 pub overflow_add-i : goal.overflow_add-i
 overflow_add-i c = omega arith

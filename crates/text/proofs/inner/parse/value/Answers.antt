@@ -25,7 +25,7 @@ value-k-requires c =
     let l = c.args.line.now in
     let n = c.nets-ns.result in
     let e = c.nets-ns.ensures in
-    record { ns_value = struct_low l n e; room = omega (arith, struct_short l n e) }
+    record { low = struct_low l n e; room = omega (arith, struct_short l n e) }
 
 pub slice_bounds-text-end : goal.slice_bounds-text-end
 slice_bounds-text-end c = omega (arith, struct_short c.args.line.now c.nets-ns.result c.nets-ns.ensures, c.value-k.auto, c.value-k.ensures.next)

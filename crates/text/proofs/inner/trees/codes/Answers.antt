@@ -4,7 +4,7 @@ use native.Mathlib.Omega.{arith}
 use Rattle.lists.specs.Vec.{vec_none}
 use Rattle.rules.specs.Bounds.{rules_max}
 use Rattle.rules.specs.Nets.{cell}
-use Rattle.text.proofs.Lays.{cell_at, cell-low}
+use Rattle.text.proofs.Lays.{cell_at_lem, cell-low}
 use Rattle.text.proofs.Values.{fill_end, fill_turn}
 use Rattle.text.proofs.inner.trees.codes.Goals as goal
 
@@ -19,7 +19,7 @@ loop-i-preserved c =
     let l = c.args.cells.now in
     let n = length-map l cell in
     let h = c.loop-i-test.true in
-    (omega (arith, h), fill_turn rules_max (map cell l) c.loop-i.nets c.loop-i.i _ c.loop-i.invariant.1 (cell_at l c.loop-i.i h) (omega (arith, n, h)) (omega (arith, n, c.requires.0)))
+    (omega (arith, h), fill_turn rules_max (map cell l) c.loop-i.nets c.loop-i.i _ c.loop-i.invariant.1 (cell_at_lem l c.loop-i.i h) (omega (arith, n, h)) (omega (arith, n, c.requires.0)))
 
 pub returns : goal.returns
 returns c =

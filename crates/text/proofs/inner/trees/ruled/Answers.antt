@@ -26,7 +26,7 @@ slice_bounds-names-end c = sym (length-take-le c.args.n c.codes-nets.result (ome
 pub names-a-requires : goal.names-a-requires
 names-a-requires c =
     let e = nets_taken c.args.store.now c.args.n c.codes-nets.result c.requires.leaf_fits c.codes-nets.ensures in
-    record { ns_value = ap all_low e ∙ c.requires.leaf_fits.low; room = omega (arith, ap (λ (l : List ℕ). length (rule_text l)) e, end_long (last_rules c.args.store.now c.args.n), c.requires.room) }
+    record { low = ap all_low e ∙ c.requires.leaf_fits.low; room = omega (arith, ap (λ (l : List ℕ). length (rule_text l)) e, end_long (last_rules c.args.store.now c.args.n), c.requires.room) }
 
 pub byte-requires : goal.byte-requires
 byte-requires c =
