@@ -37,6 +37,7 @@ pub mod Stepped
 pub mod Stores
 pub mod Tables
 pub mod Tested
+pub mod Told
 pub mod Trees
 pub mod Walks
 pub mod Words

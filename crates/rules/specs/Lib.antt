@@ -18,6 +18,7 @@ pub mod Print
 pub mod Read
 pub mod Refusals
 pub mod Refuse
+pub mod Refused
 pub mod Steps
 pub mod Store
 pub mod Tree

@@ -1,8 +1,12 @@
 // Document 01 as definitions: `specs/` has a file a section, `proofs/` the laws of the definitions alone.
-// Here are only the types of trits, nets and places, the bounds and the numbers; no operation on them.
+// Here are only the types of trits, nets, places and refusals, their numbers, and the bounds; no operation on them.
 #![tactic(auto)]
 
 mod bounds;
+mod convert;
+mod refusal;
+
+pub use refusal::Refusal;
 
 #[derive(Clone, Copy)]
 pub enum Trit {
@@ -46,27 +50,7 @@ pub const UNDEF: u8 = 2;
 
 pub const FIRST_CELL: u16 = 3;
 
-// The refusals.
-pub const COLUMNS: u8 = 1;
+// The codes of the last cell that may stand in a matrix, and of the net that the last mux drives.
+pub const LAST_CELL: u16 = FIRST_CELL + CELL_MAX;
 
-pub const ROWS: u8 = 2;
-
-pub const SHAPE: u8 = 3;
-
-pub const NET: u8 = 4;
-
-pub const RULES: u8 = 5;
-
-pub const CATCH: u8 = 6;
-
-pub const NODES: u8 = 7;
-
-pub const WIDTH: u8 = 8;
-
-pub const OVERLAP: u8 = 9;
-
-pub const ROOM: u8 = 10;
-
-pub const LINE: u8 = 11;
-
-pub const FORM: u8 = 12;
+pub const LAST_NET: u16 = LAST_CELL + MUX_MAX as u16;

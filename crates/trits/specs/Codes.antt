@@ -1,28 +1,24 @@
 -- What the answers of this crate say, and the trit of a number that is known to code one. Assumes nothing.
-use Rattle.std.specs.Prelude.{ℕ, ◌<◌, ltb, cond, ◌≡◌}
+use Rattle.std.specs.Prelude.{ℕ, ◌<◌, ltb, cond, ◌≡◌, Result, Ok, Err}
 use Rattle.std.proofs.Common.{ltb-false, arith}
 use Rattle.lists.specs.Bools.{by_bool}
 use Rattle.rules.specs.Refuse.{Outcome, done, refused}
+use Rattle.rules.specs.Refused.{number_of}
 use Rattle.rules.specs.declared.Net.{Net}
 use Rattle.rules.specs.declared.Trit.{Trit}
-use Rattle.trits.specs.declared.NetCode.{NetCode}
-use Rattle.trits.specs.declared.NetCode.TheVariants as netcode
-use Rattle.trits.specs.declared.NetRead.{NetRead}
-use Rattle.trits.specs.declared.NetRead.TheVariants as netread
-use Rattle.trits.specs.declared.TritRead.{TritRead}
-use Rattle.trits.specs.declared.TritRead.TheVariants as tritread
+use Rattle.rules.specs.declared.refusal.Refusal.{Refusal}
 
-abbrev pub trit_read : TritRead → Outcome Trit
-trit_read (tritread.Is t) = done t
-trit_read (tritread.Refused n) = refused n
+abbrev pub trit_read : Result Trit Refusal → Outcome Trit
+trit_read (Ok t) = done t
+trit_read (Err why) = refused (number_of why)
 
-abbrev pub net_read : NetRead → Outcome Net
-net_read (netread.Is n) = done n
-net_read (netread.Refused n) = refused n
+abbrev pub net_read : Result Net Refusal → Outcome Net
+net_read (Ok n) = done n
+net_read (Err why) = refused (number_of why)
 
-abbrev pub code_read : NetCode → Outcome ℕ
-code_read (netcode.Is x) = done x
-code_read (netcode.Refused n) = refused n
+abbrev pub code_read : Result ℕ Refusal → Outcome ℕ
+code_read (Ok x) = done x
+code_read (Err why) = refused (number_of why)
 
 -- a number over the last trit's is taken for that
 abbrev pub cut : ℕ → ℕ

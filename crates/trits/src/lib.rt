@@ -1,5 +1,5 @@
-// Trits and nets: what a number codes, the code of each, and the mux as a table of 27 trits.
-// The types are those of `rules`; nothing here knows rows or matrices.
+// The calls of codes: what a number codes, and the code of each; and the mux as a table of 27 trits.
+// The types and their numbers are those of `rules`; nothing here knows rows or matrices.
 #![tactic(auto)]
 
 ghost use Rattle.std.specs.Prelude.{◌<◌, get_or, length, ◌≡◌};
@@ -10,66 +10,38 @@ ghost use Rattle.trits.specs.Mux.{table};
 
 pub mod inner;
 
-#[derive(Clone, Copy)]
-pub enum TritRead {
-    Is(rules::Trit),
-    Refused(u8),
-}
+use rules::{Net, Refusal, Trit};
 
-#[derive(Clone, Copy)]
-pub enum NetRead {
-    Is(rules::Net),
-    Refused(u8),
-}
-
-#[derive(Clone, Copy)]
-pub enum NetCode {
-    Is(u16),
-    Refused(u8),
-}
-
-// The code of the net that the last mux drives: no higher number codes a net.
-const LAST: u16 = rules::FIRST_CELL + rules::CELL_MAX + rules::MUX_MAX as u16;
-
-pub fn trit_of(x: u8) -> TritRead
+pub fn trit_of(x: u8) -> Result<Trit, Refusal>
     ensures { trit_read result ≡ trit_answer x }
 {
-    match x {
-        0 => TritRead::Is(rules::Trit::Zero),
-        1 => TritRead::Is(rules::Trit::One),
-        2 => TritRead::Is(rules::Trit::Undef),
-        _ => TritRead::Refused(rules::FORM),
-    }
+    Trit::try_from(x)
 }
 
-pub fn trit_code(t: rules::Trit) -> u8
+pub fn trit_code(t: Trit) -> u8
     ensures { result ≡ trit_code t }
 {
-    match t {
-        rules::Trit::Zero => 0,
-        rules::Trit::One => 1,
-        rules::Trit::Undef => 2,
-    }
+    u8::from(t)
 }
 
-pub fn net_of(x: u16) -> NetRead
+pub fn net_of(x: u16) -> Result<Net, Refusal>
     ensures { net_read result ≡ net_answer x }
 {
-    if x <= LAST {
-        NetRead::Is(inner::net(x))
+    if x <= rules::LAST_NET {
+        Ok(Net::from(x))
     } else {
-        NetRead::Refused(rules::FORM)
+        Err(Refusal::Form)
     }
 }
 
-pub fn net_code(n: rules::Net) -> NetCode
+pub fn net_code(n: Net) -> Result<u16, Refusal>
     ensures { code_read result ≡ code_answer n }
 {
-    let x = inner::code(n);
-    if x <= LAST as u32 {
-        NetCode::Is(x as u16)
+    let x = u32::from(n);
+    if x <= u32::from(rules::LAST_NET) {
+        Ok(x as u16)
     } else {
-        NetCode::Refused(rules::NET)
+        Err(Refusal::Net)
     }
 }
 
@@ -84,12 +56,12 @@ const MUX: [u8; 27] = [
     2, 2, 1, 2, 2, 2, 2,
 ];
 
-pub fn mux(select: rules::Trit, one: rules::Trit, zero: rules::Trit) -> rules::Trit
+pub fn mux(select: Trit, one: Trit, zero: Trit) -> Trit
     ensures { trit_code result ≡ mux_of (trit_code select) (trit_code one) (trit_code zero) }
 {
-    let s = wide(trit_code(select));
-    let a = wide(trit_code(one));
-    let b = wide(trit_code(zero));
+    let s = usize::from(trit_code(select));
+    let a = usize::from(trit_code(one));
+    let b = usize::from(trit_code(zero));
     inner::trit(entry(9 * s + 3 * a + b))
 }
 
@@ -99,10 +71,4 @@ fn entry(at: usize) -> u8
     ensures { result ≡ get_or table at 0 }
 {
     MUX[at]
-}
-
-fn wide(x: u8) -> usize
-    ensures { result ≡ x }
-{
-    x as usize
 }

@@ -12,5 +12,5 @@ entry-requires c = let a = c.args in omega (arith, in_table a.select a.one a.zer
 pub returns : goal.returns
 returns c =
     let a = c.args in
-    let k = 9 * c.wide-s.result + 3 * c.wide-a.result + c.wide-b.result in
+    let k = 9 * c.from-s.result + 3 * c.from-a.result + c.from-b.result in
     c.trit.ensures ∙ ap cut c.entry.ensures ∙ mux-read a.select a.one a.zero k (omega arith)
