@@ -1,5 +1,5 @@
--- What no number says of a new matrix and of a row to add, and what is added then. Assumes nothing.
-use borrow.Author.Tests.{eqb-true, le-ltb, ltb-false}
+-- What no number says of a row to add, and what is added then. Assumes nothing.
+use borrow.Author.Tests.{eqb-true, ltb-false}
 use lib.Dec.{eqb, ltb}
 use lib.ListN.{length, length-append}
 use mathlib.Core.Bool.{false, not}
@@ -17,18 +17,14 @@ use Rattle.matrix.specs.Mat.{given, view}
 use Rattle.rows.specs.declared.Row.{Row}
 use Rattle.rows.specs.Rows as rows
 use Rattle.rules.proofs.Picks.{none_applies}
-use Rattle.rules.specs.Bounds.{columns_max, rows_max, rules_max}
+use Rattle.rules.specs.Bounds.{rows_max, rules_max}
 use Rattle.rules.specs.Given.{bad_rows, bad_rules, bad_shape, too_tall}
 use Rattle.rules.specs.Matrix.{add, Matrix as MatrixOf, Row as RowOf, set_of}
-use Rattle.rules.specs.Refusals.{add_table, new_table}
+use Rattle.rules.specs.Refusals.{add_table}
 use Rattle.rules.specs.Refuse.{COLUMNS, refusal, ROWS, RULES, SHAPE}
 use Rattle.sets.proofs.Unions.{list_of-rules_from}
-use Rattle.sets.specs.declared.Collected.{Collected}
-use Rattle.sets.specs.Sets.{collected, list_of, rules_from}
-
-pub new-fits : (ns : List ℕ) → refusal (new_table ns) ≡ 0 → length ns ≤ columns_max
-unfolding mem
-new-fits ns e = ltb-false columns_max (length ns) (none_applies (new_table ns) e COLUMNS refl)
+use Rattle.sets.specs.declared.Rules.{Rules}
+use Rattle.sets.specs.Sets.{list_of, rules_from}
 
 module _ (m : Matrix) (p rs : List ℕ) (e : refusal (add_table (given m) p rs) ≡ 0) where
   no_rows : (bad_rows (given m) ≡ false) × (too_tall (add p rs (view m)) ≡ false)
@@ -61,10 +57,9 @@ module _ (m : Matrix) (p rs : List ℕ) (e : refusal (add_table (given m) p rs) 
 
 -- ---- the row, and the matrix with it
 
-pub collected-few : (c : Collected) (rs : List ℕ) → c ≡ collected rs → length (set_of rs) ≤ rules_max → (list_of c.rules ≡ set_of rs) × (c.rules ≡ rules_from (list_of c.rules))
-collected-few c rs e h =
-    let f : c.rules ≡ rules_from (set_of rs) = ap (λ (d : Collected). d.rules) e ∙ rw (le-ltb rules_max (length (set_of rs)) h) in
-    let l : list_of c.rules ≡ set_of rs = ap list_of f ∙ list_of-rules_from (set_of rs) h in
+pub collected-few : (s : Rules) (rs : List ℕ) → s ≡ rules_from (set_of rs) → length (set_of rs) ≤ rules_max → (list_of s ≡ set_of rs) × (s ≡ rules_from (list_of s))
+collected-few s rs f h =
+    let l : list_of s ≡ set_of rs = ap list_of f ∙ list_of-rules_from (set_of rs) h in
     (l, f ∙ ap rules_from (sym l))
 
 pub add_path : (a b : MatrixOf) (x y : RowOf) → a ≡ b → x ≡ y
@@ -72,16 +67,16 @@ pub add_path : (a b : MatrixOf) (x y : RowOf) → a ≡ b → x ≡ y
 add_path a b x y p q = λ i. record { nets = (p i).nets; rows = (p i).rows ++ (q i ∷ []) }
 
 -- y is the row made of the pattern and the collected rules, t the matrix tidied
-module _ (m : Matrix) (p rs : List ℕ) (e : refusal (add_table (given m) p rs) ≡ 0) (c : Collected) (q : c ≡ collected rs) (y : Row) (f : y ≡ rows.row_from (record { pattern = p; rules = list_of c.rules })) where
+module _ (m : Matrix) (p rs : List ℕ) (e : refusal (add_table (given m) p rs) ≡ 0) (s : Rules) (q : s ≡ rules_from (set_of rs)) (y : Row) (f : y ≡ rows.row_from (record { pattern = p; rules = list_of s })) where
   pub add-row_is : rows.view y ≡ record { pattern = p; rules = set_of rs }
   add-row_is =
       let w = fits-columns m (add-fits m p rs e) in
-      let s = add-shape m p rs e in
-      let k = (collected-few c rs q (add-few m p rs e)).0 in
-      let h : length (list_of c.rules) ≤ rules_max = rw k (add-few m p rs e) in
-      ap rows.view f ∙ view_row_lem (record { pattern = p; rules = list_of c.rules }) (omega arith) h ∙ (λ i. record { pattern = p; rules = k i })
+      let a = add-shape m p rs e in
+      let k = (collected-few s rs q (add-few m p rs e)).0 in
+      let h : length (list_of s) ≤ rules_max = rw k (add-few m p rs e) in
+      ap rows.view f ∙ view_row_lem (record { pattern = p; rules = list_of s }) (omega arith) h ∙ (λ i. record { pattern = p; rules = k i })
 
   pub add-row_clean : y ≡ rows.row_from (rows.view y)
   add-row_clean =
-      let k : set_of rs ≡ list_of c.rules = sym (collected-few c rs q (add-few m p rs e)).0 in
+      let k : set_of rs ≡ list_of s = sym (collected-few s rs q (add-few m p rs e)).0 in
       f ∙ ap rows.row_from (sym (add-row_is ∙ (λ i. record { pattern = p; rules = k i })))

@@ -1,5 +1,5 @@
 -- What no number says of an assumption and of an enable, and when an enable is one too many. Assumes nothing.
-use borrow.Author.Tests.{le-ltb, leb-false, ltb-false}
+use borrow.Author.Tests.{le-ltb, ltb-false}
 use lib.Dec.{eqb, leb}
 use lib.ListN.{length, length-append, length-map, take}
 use mathlib.Core.Bool.{◌&&◌, false, not}
@@ -15,11 +15,10 @@ use Rattle.matrix.specs.Faults.{Fits}
 use Rattle.matrix.specs.Mat.{given, view}
 use Rattle.rules.proofs.Picks.{none_applies}
 use Rattle.rules.specs.Bounds.{columns_max, rows_max}
-use Rattle.rules.specs.Given.{bad_columns, bad_net, bad_rows, too_tall, too_wide}
+use Rattle.rules.specs.Given.{bad_columns, bad_rows, too_tall, too_wide}
 use Rattle.rules.specs.Matrix.{add_enable, widened}
-use Rattle.rules.specs.Nets.{first_mux, over}
 use Rattle.rules.specs.Refusals.{assume_table, enable_table}
-use Rattle.rules.specs.Refuse.{COLUMNS, NET, refusal, ROWS, RULES, SHAPE}
+use Rattle.rules.specs.Refuse.{COLUMNS, refusal, ROWS, RULES, SHAPE}
 
 module _ (m : Matrix) (t : ℕ) (e : refusal (assume_table t (given m)) ≡ 0) where
   pub assume-fits : Fits m
@@ -27,10 +26,6 @@ module _ (m : Matrix) (t : ℕ) (e : refusal (assume_table t (given m)) ≡ 0) w
   assume-fits =
       let none = none_applies (assume_table t (given m)) e in
       record { columns = none COLUMNS refl; rows = none ROWS refl; shape = none SHAPE refl; rules = none RULES refl }
-
-  pub assume-low : t < first_mux
-  unfolding mem
-  assume-low = leb-false first_mux t (or_no (bad_net (given m)) (over t) (none_applies (assume_table t (given m)) e NET refl)).1
 
 -- ---- the enable
 
@@ -65,10 +60,6 @@ module _ (m : Matrix) (e : ℕ) (z : refusal (enable_table e (given m)) ≡ 0) w
   enable_fits =
       let none = none_applies (enable_table e (given m)) z in
       record { columns = no_columns.0; rows = no_rows.0; shape = none SHAPE refl; rules = none RULES refl }
-
-  pub enable_low : e < first_mux
-  unfolding mem
-  enable_low = leb-false first_mux e (or_no (bad_net (given m)) (over e) (none_applies (enable_table e (given m)) z NET refl)).1
 
   pub enable_room : eqb e 1 ≡ false → (length (view m).nets < columns_max) × (length (view m).rows < rows_max)
   enable_room t =

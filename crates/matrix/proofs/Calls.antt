@@ -21,16 +21,33 @@ use Rattle.rules.specs.Answers.{made}
 use Rattle.rules.specs.Bounds.{rows_max}
 use Rattle.rules.specs.Given.{Given, matrix_table}
 use Rattle.rules.specs.Matrix.{Matrix as MatrixOf, Row as RowOf}
+use Rattle.rules.specs.declared.refusal.Refusal.{Refusal}
+use Rattle.rules.specs.declared.refusal.Refusal.TheVariants as why
 use Rattle.rules.specs.Refuse.{COLUMNS, refusal, ROWS, RULES, SHAPE}
+use Rattle.rules.specs.Refused.{number_of}
 
--- ---- the answer: n is the number that the call found
+-- ---- the answer: r is the number that the call gives
 
-module _ (n r : ℕ) (old : Given) (m : MatrixOf) (x : Matrix) (e : n ≡ r) where
-  pub refuse : (n ≡ 0 → ⊥) → x ≡ from old → record { no = n; matrix = x } ≡ made_from (made r old m)
-  refuse h q = rw (← e, ne_eqb n 0 h, q)
+pub number-some : (why : Refusal) → number_of why ≡ 0 → ⊥
+number-some why.Columns e = absurd (omega arith)
+number-some why.Rows e = absurd (omega arith)
+number-some why.Shape e = absurd (omega arith)
+number-some why.Net e = absurd (omega arith)
+number-some why.Rules e = absurd (omega arith)
+number-some why.Catch e = absurd (omega arith)
+number-some why.Nodes e = absurd (omega arith)
+number-some why.Width e = absurd (omega arith)
+number-some why.Overlap e = absurd (omega arith)
+number-some why.Room e = absurd (omega arith)
+number-some why.Line e = absurd (omega arith)
+number-some why.Form e = absurd (omega arith)
 
-  pub accept : n ≡ 0 → x ≡ matrix_from m → record { no = 0; matrix = x } ≡ made_from (made r old m)
-  accept h q = rw (← e, h, q)
+module _ (r : ℕ) (old : Given) (m : MatrixOf) (x : Matrix) where
+  pub refuse : (why : Refusal) → number_of why ≡ r → x ≡ from old → record { no = number_of why; matrix = x } ≡ made_from (made r old m)
+  refuse why e q = rw (← e, ne_eqb (number_of why) 0 (number-some why), q)
+
+  pub accept : 0 ≡ r → x ≡ matrix_from m → record { no = 0; matrix = x } ≡ made_from (made r old m)
+  accept e q = rw (← e, q)
 
 -- ---- no number: the matrix by itself is within the bounds
 
@@ -47,13 +64,6 @@ view-rows-length m = ap (λ (l : List RowOf). length l) (rows_viewed m) ∙ leng
 
 pub one-over : (k n u : ℕ) → n ≡ u + 1 → ltb k n ≡ leb k u
 one-over k n u e = by_bool (leb k u) (λ t. let h = leb-true k u t in rw t (lt-ltb k n (omega arith))) (λ t. let h = leb-false k u t in rw t (le-ltb k n (omega arith)))
-
--- a row more is one too many where all are in use
-pub full_is : (m : Matrix) (x : RowOf) (u : ℕ) → u ≡ length (take m.count m.rows) → ltb rows_max (length ((view m).rows ++ (x ∷ []))) ≡ leb rows_max u
-full_is m x u e =
-    let a = length-append (view m).rows (x ∷ []) in
-    let b = view-rows-length m in
-    one-over rows_max (length ((view m).rows ++ (x ∷ []))) u (omega arith)
 
 -- ---- one row more
 

@@ -1,44 +1,18 @@
 -- What the check of a matrix cites: what is left of the slots in use decides, and the tests of the struct are those of the matrix that it is.
 -- Assumes nothing.
-use lib.ListN.{drop, get_or, length, length-take, take}
-use lib.Seq.{get_or-take}
-use mathlib.Core.Bool.{◌&&◌, Bool, false, true}
-use mathlib.Core.List.{[], ◌∷◌, List, map}
-use mathlib.Core.Path.{◌∙◌, ◌≡◌, ap, refl, sym}
-use native.Mathlib.Nat.{le_of_suc-le-suc, not-suc-le-zero}
-use native.Mathlib.Omega.{arith}
-use Prim.Native.Nat.{◌+◌, ◌<◌, ◌≤◌, suc, zero, ℕ}
-use Rattle.lists.specs.Bools.{and_left, and_right}
-use Rattle.lists.specs.Lists.{all, rest_more, rest_stop}
+use Rattle.std.proofs.Common.{◌≡◌, ◌∙◌, ◌&&◌, ap, Bool, eqb, leb, List, [], ◌∷◌, ltb, map, not, refl, suc, sym, take, zero, ℕ}
+use Rattle.lists.specs.Lists.{all}
 use Rattle.matrix.specs.declared.Faults.{Faults}
 use Rattle.matrix.specs.declared.Matrix.{Matrix}
+use Rattle.matrix.specs.Faults.{faults_of, few, formed, named, shaped}
 use Rattle.matrix.specs.Mat.{given, view}
 use Rattle.rows.specs.declared.Row.{Row}
 use Rattle.rows.specs.Rows as rows
-use Rattle.rules.specs.Given.{GivenRow, view_row}
+use Rattle.rules.specs.Bounds.{columns_max, rows_max, rules_max}
+use Rattle.rules.specs.Given.{formed_row, GivenRow, view_row}
 use Rattle.rules.specs.Matrix.{Row as RowOf}
-use Rattle.rules.specs.Refuse.{COLUMNS, FORM, NET, ROWS, RULES, SHAPE, Table}
-
--- ---- slots in use, of an array or a slice
-
-module _ {A : Type 0} (n : ℕ) (l : List A) (d : A) (i : ℕ) (h : i < length (take n l)) where
-  pub used-at : get_or (take n l) i d ≡ get_or l i d
-  used-at =
-      let k : length (take n l) ≤ n = rw (length-take n l) (omega arith) in
-      get_or-take n l i d (omega arith)
-
-  pub used_more : (f : A → Bool) → f (get_or l i d) ≡ true → all f (drop i (take n l)) ≡ all f (drop (i + 1) (take n l))
-  used_more f e = rest_more f (take n l) d i h (ap f used-at ∙ e)
-
-  pub used_stop : (f : A → Bool) → f (get_or l i d) ≡ false → all f (drop i (take n l)) ≡ false
-  used_stop f e = rest_stop f (take n l) d i h (ap f used-at ∙ e)
-
--- ---- what a test of all says of one
-
-pub all-at : {A : Type 0} (f : A → Bool) (l : List A) (d : A) (i : ℕ) → i < length l → all f l ≡ true → f (get_or l i d) ≡ true
-all-at f [] d i h e = absurd (not-suc-le-zero h)
-all-at f (x ∷ l) d zero h e = and_left (f x) (all f l) e
-all-at f (x ∷ l) d (suc i) h e = all-at f l d i (le_of_suc-le-suc h) (and_right (f x) (all f l) e)
+use Rattle.rules.specs.Nets.{is_name, is_net}
+use Rattle.rules.specs.Refusals.{all_low}
 
 -- ---- the struct's tests
 
@@ -67,20 +41,23 @@ all_viewed f m = ap (all f) (rows_viewed m) ∙ all_map f rows.view (take m.coun
 pub all-given : (f : GivenRow → Bool) (m : Matrix) → all f (take m.count (given m).rows) ≡ all (λ (r : Row). f (rows.given r)) (take m.count m.rows)
 all-given f m = ap (all f) (take-map rows.given m.count m.rows) ∙ all_map f rows.given (take m.count m.rows)
 
--- as many as there are in use are those in use
-pub take-used : {A : Type 0} (n : ℕ) (l : List A) → take (length (take n l)) l ≡ take n l
-take-used zero l = refl
-take-used (suc n) [] = refl
-take-used (suc n) (x ∷ l) = ap (λ (r : List _). x ∷ r) (take-used n l)
-
--- a test of the nets in use, as a function over that many found it
-pub used-test : (f : List ℕ → Bool) (n k : ℕ) (l : List ℕ) (b : Bool) → k ≡ length (take n l) → b ≡ f (take k l) → f (take n l) ≡ b
-used-test f n k l b e h = sym (h ∙ ap f (ap (λ (j : ℕ). take j l) e ∙ take-used n l))
-
--- ---- the number that is given
-
-abbrev pub table : Faults → Table
-table f = (FORM, f.form) ∷ (COLUMNS, f.columns) ∷ (ROWS, f.rows) ∷ (SHAPE, f.shape) ∷ (NET, f.net) ∷ (RULES, f.rules) ∷ []
+-- ---- the six conditions, of what the code finds of the nets and of the rows in use
 
 pub faults_path : (f g : Faults) → f.form ≡ g.form → f.columns ≡ g.columns → f.rows ≡ g.rows → f.shape ≡ g.shape → f.net ≡ g.net → f.rules ≡ g.rules → f ≡ g
 faults_path f g p q r s t u = λ i. record { form = p i; columns = q i; rows = r i; shape = s i; net = t i; rules = u i }
+
+module _ (m : Matrix) where
+  abbrev used : List Row
+  used = take m.count m.rows
+
+  pub faults_is : (ns : List ℕ) (a b c d e f : Bool) → ns ≡ take m.columns m.value → a ≡ all is_net ns → b ≡ all_low ns
+      → c ≡ all formed used → d ≡ all (shaped m.columns) used → e ≡ all named used → f ≡ all few used
+      → record { form = not (a && c); columns = ltb columns_max m.columns; rows = ltb rows_max m.count; shape = not d; net = not (b && e); rules = not f } ≡ faults_of (given m)
+  faults_is ns a b c d e f n p q h j k l =
+      faults_path _ _
+      (rw (p, n, h, all_viewed formed_row m))
+      refl
+      refl
+      (ap not (j ∙ sym (all-given (λ (r : GivenRow). eqb r.len m.columns) m)))
+      (rw (q, n, k, all_viewed (λ (r : RowOf). all is_name r.rules) m))
+      (ap not (l ∙ sym (all-given (λ (r : GivenRow). leb r.count rules_max) m)))

@@ -1,21 +1,21 @@
 -- merge as it is made: two rows joined, a row alone, and the rows of one parent row behind those made so far. Assumes nothing.
 use lib.ListN.{drop, get_or, length, length-append, length-map, length-replicate, replicate, set, take, take-append-drop}
-use lib.Seq.{take_all, take-suc}
+use lib.Seq.{length-take-le, take_all, take-suc}
 use mathlib.Core.Bool.{false, true}
 use mathlib.Core.List.{[], ◌++◌, ◌∷◌, append_assoc, List, map}
 use mathlib.Core.Path.{◌∙◌, ◌≡◌, ap, ap₂, refl, subst, sym}
 use native.Mathlib.Numerals.{add-one}
 use native.Mathlib.Omega.{arith}
-use Prim.Native.Nat.{◌*◌, ◌+◌, ◌<◌, ◌≤◌, ℕ}
+use Prim.Native.Nat.{◌+◌, ◌<◌, ◌≤◌, ℕ}
 use Rattle.lists.specs.Lists.{mem}
-use Rattle.lists.specs.Vec.{push, take-vec, vec, vec_none}
+use Rattle.lists.specs.Vec.{push, vec, vec_none}
 use Rattle.matrix.proofs.MergeCount.{merge_cons, merge-named, merge_other}
 use Rattle.matrix.proofs.StepHeld.{clean_held, clean_wide, held_is, map-append, none_row, past, row_long, row-view, row_wide, sized_at, zero_row}
 use Rattle.matrix.proofs.StepLaws.{row_path}
 use Rattle.matrix.proofs.Views.{clean_is}
 use Rattle.matrix.specs.declared.Matrix.{Matrix}
 use Rattle.matrix.specs.Mat.{Clean, matrix_from, view}
-use Rattle.rows.proofs.Laws.{get_d_map, join_fill}
+use Rattle.rows.proofs.Laws.{get_d_map}
 use Rattle.rows.specs.declared.Row.{Row}
 use Rattle.rows.specs.Rows as rows
 use Rattle.rows.specs.Rows.{row_from}
@@ -23,38 +23,37 @@ use Rattle.rules.specs.Bounds.{columns_max, rows_max, rules_max}
 use Rattle.rules.specs.Given.{Sized, SizedRows}
 use Rattle.rules.specs.Matrix.{alone, joined, Matrix as MatrixOf, merge, merge_rows, Row as RowOf, union}
 use Rattle.sets.specs.declared.Rules.{Rules}
-use Rattle.sets.specs.declared.Wide.{Wide}
-use Rattle.sets.specs.Sets.{rules_from, wide_from}
+use Rattle.sets.specs.Sets.{rules_from}
 
 -- ---- one row
 
-tidy_len : (row : Row) → row ≡ row_from (rows.view row) → row.len ≡ length (rows.view row).pattern
+tidy_len : (row : Row) → rows.Tidy row → row.len ≡ length (rows.view row).pattern
 tidy_len row e = ap (λ (r : Row). r.len) e
 
-pub joined_is : (row other : Row) (p : List ℕ) (s : Rules) (w : Wide) → row ≡ row_from (rows.view row) → other ≡ row_from (rows.view other)
-    → p ≡ vec columns_max 0 ((rows.view row).pattern ++ (rows.view other).pattern) → w ≡ wide_from (union (rows.view row).rules (rows.view other).rules)
-    → s ≡ rules_from (take w.count w.items) → length (union (rows.view row).rules (rows.view other).rules) ≤ rules_max
+pub joined_is : (row other : Row) (p : List ℕ) (s : Rules) → rows.Tidy row → rows.Tidy other
+    → p ≡ vec columns_max 0 ((rows.view row).pattern ++ (rows.view other).pattern) → s ≡ rules_from (union (rows.view row).rules (rows.view other).rules)
     → record { pattern = p; len = row.len + other.len; rules = s } ≡ row_from (joined (rows.view row) (rows.view other))
-joined_is row other p s w e f a b d h =
-    let u : List ℕ = union (rows.view row).rules (rows.view other).rules in
-    let t : take w.count w.items ≡ u = ap (λ (x : Wide). take x.count x.items) b ∙ take-vec (2 * rules_max) 0 u (omega arith) in
+joined_is row other p s e f a d =
     row_path (record { pattern = p; len = row.len + other.len; rules = s }) (row_from (joined (rows.view row) (rows.view other))) a
     (ap₂ ◌+◌ (tidy_len row e) (tidy_len other f) ∙ sym (length-append (rows.view row).pattern (rows.view other).pattern))
-    (d ∙ ap rules_from t)
+    d
 
 pub length-alone : (l : List ℕ) (w : ℕ) → length (l ++ replicate w 2) ≡ length l + w
 length-alone l w = length-append l (replicate w 2) ∙ ap (λ (k : ℕ). length l + k) (length-replicate {A = ℕ} w 2)
 
-pub alone_is : (row : Row) (w : ℕ) (p : List ℕ) → row ≡ row_from (rows.view row) → p ≡ vec columns_max 0 ((rows.view row).pattern ++ replicate w 2)
-    → record { pattern = p; len = row.len + w; rules = row.rules } ≡ row_from (alone w (rows.view row))
-alone_is row w p e a =
-    row_path (record { pattern = p; len = row.len + w; rules = row.rules }) (row_from (alone w (rows.view row))) a
-    (ap (λ (k : ℕ). k + w) (tidy_len row e) ∙ sym (length-alone (rows.view row).pattern w))
-    (ap (λ (r : Row). r.rules) e)
-
 -- ---- one for each of the child's rows, behind those made so far
 
-module _ (made child : Matrix) (row : Row) (c : Clean made) (d : Clean child) (e : row ≡ row_from (rows.view row)) (k : made.count + child.count ≤ rows_max)
+-- one element of s more, behind k that stand
+join_fill : {A : Type 0} (n : ℕ) (d : A) (l s : List A) (k i : ℕ) (z : A) → length l ≡ k → i < length s → k + i < n
+    → set (vec n d (l ++ take i s)) (k + i) (get_or s i z) ≡ vec n d (l ++ take (i + 1) s)
+join_fill {A = A} n d l s k i z e h r =
+    let t : length (take i s) ≡ i = length-take-le i s (omega arith) in
+    let w : length (l ++ take i s) ≡ k + i = length-append l (take i s) ∙ omega arith in
+    ap (λ (j : ℕ). set (vec n d (l ++ take i s)) j (get_or s i z)) (sym w)
+    ∙ push n d (l ++ take i s) (get_or s i z) (omega arith)
+    ∙ ap (vec n d) (append_assoc l (take i s) (get_or s i z ∷ []) ∙ ap (λ (r : List A). l ++ r) (sym (ap (λ (j : ℕ). take j s) (add-one i) ∙ take-suc s i z h)))
+
+module _ (made child : Matrix) (row : Row) (c : Clean made) (d : Clean child) (e : rows.Tidy row) (k : made.count + child.count ≤ rows_max)
     (s : SizedRows made.columns (map (joined (rows.view row)) (view child).rows)) where
   abbrev parts : List RowOf
   parts = map (joined (rows.view row)) (view child).rows
@@ -105,7 +104,7 @@ module _ (made child : Matrix) (row : Row) (c : Clean made) (d : Clean child) (e
 
 -- ---- the rows of one parent row
 
-module _ (made child : Matrix) (row : Row) (t : ℕ) (c : Clean made) (d : Clean child) (e : row ≡ row_from (rows.view row))
+module _ (made child : Matrix) (row : Row) (t : ℕ) (c : Clean made) (d : Clean child) (e : rows.Tidy row)
     (k : made.count + length (merge_rows t (view child) (rows.view row ∷ [])) ≤ rows_max)
     (s : SizedRows made.columns (merge_rows t (view child) (rows.view row ∷ []))) where
   abbrev Asked : Type 0
@@ -185,9 +184,6 @@ module _ (m child : Matrix) (t : ℕ) (c : Clean m) (d : Clean child) (s : Sized
       ap (merge_rows t (view child)) (sym (take-append-drop i (view m).rows)) ∙ merge-append t (view child) (take i (view m).rows) (drop i (view m).rows) in
       let l = ap length f ∙ length-append (merged_to i).rows rest in
       record { wide = s.wide; tall = omega (arith, l, s.tall); each = (sized_split w (merged_to i).rows rest (subst (SizedRows w) f s.each)).0 }
-
-  pub merged_wide : m.columns + child.columns ≤ columns_max
-  merged_wide = omega (arith, s.wide, length-append (view m).nets (view child).nets, (clean_held m c).columns, (clean_held child d).columns)
 
   pub merged_start : (v : List ℕ) (z : Row) → v ≡ vec columns_max 0 ((view m).nets ++ (view child).nets) → z ≡ zero_row
       → record { value = v; columns = m.columns + child.columns; rows = replicate rows_max z; count = 0 } ≡ matrix_from (merged_to 0)

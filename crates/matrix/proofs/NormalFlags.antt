@@ -1,5 +1,4 @@
 -- A flag a column: written one by one, and gathered over the rows. Assumes nothing.
-use borrow.Author.Tests.{le-leb}
 use lib.Dec.{eqb}
 use lib.ListN.{get_or, length, set, take}
 use lib.Seq.{ext_get_or, take_all}
@@ -13,11 +12,8 @@ use Rattle.lists.specs.Vec.{fill, get_or-vec, vec}
 use Rattle.matrix.proofs.StepHeld.{get_d_any}
 use Rattle.rows.proofs.Laws.{length-flags}
 use Rattle.rows.specs.Rows.{flags, flags_from}
-use Rattle.rules.specs.Codes.{trit_code}
-use Rattle.rules.specs.declared.Trit.TheVariants.{One, Undef, Zero}
-use Rattle.rules.specs.declared.Trit.{Trit}
 use Rattle.rules.specs.Matrix.{Row}
-use Rattle.rules.specs.Nets.{cell, is_cell}
+use Rattle.rules.specs.Nets.{is_cell}
 use Rattle.rules.specs.Steps.{goes, place, x_at}
 use Rattle.rules.specs.Trits.{is_x}
 
@@ -118,11 +114,3 @@ gone_is N ns rs u w e =
     twice : (b : Bool) → not (not b) ≡ b
     twice true = refl
     twice false = refl
-
-pub const_goes : (t : Trit) (b : Bool) → true ≡ (not (is_cell (trit_code t)) || b)
-const_goes Zero b = refl
-const_goes One b = refl
-const_goes Undef b = refl
-
-pub cell-goes : (k : ℕ) (b : Bool) → b ≡ (not (is_cell (cell k)) || b)
-cell-goes k b = rw (le-leb 3 (cell k) (omega arith))

@@ -1,7 +1,9 @@
 -- The rows of normalize, one by one: those that stay so far, and the columns that are taken out of each. Assumes nothing.
 use lib.ListN.{drop, drop_of_length-le, get_or, length, length-append, length-map, get_or-eq_default, set, take}
 use lib.Seq.{drop-cons}
-use mathlib.Core.Bool.{◌||◌, Bool, false, not, true, true≢false}
+use lib.Dec.{eqb}
+use lib.Pointwise.{pointwise}
+use mathlib.Core.Bool.{◌&&◌, ◌||◌, Bool, cond, false, not, true}
 use mathlib.Core.List.{[], ◌++◌, ◌∷◌, append_assoc, append-nil, List, map}
 use mathlib.Core.Option.{none, Option, some}
 use mathlib.Core.Path.{◌∙◌, ◌≡◌, ap, ap₂, refl, sym}
@@ -9,24 +11,26 @@ use native.Mathlib.Nat.{le_of_suc-le-suc, not-suc-le-zero}
 use native.Mathlib.Numerals.{add-one}
 use native.Mathlib.Omega.{arith}
 use Prim.Native.Nat.{◌+◌, ◌<◌, ◌≤◌, suc, zero, ℕ}
-use Rattle.lists.specs.Lists.{kept, map_to}
+use Rattle.lists.specs.Lists.{kept, map_to, same}
 use Rattle.lists.specs.Vec.{get_or-vec, length-vec, map_to-vec, push, take-vec, vec}
 use Rattle.matrix.proofs.NormalFlags.{used, used_more, used_start}
-use Rattle.matrix.proofs.StepHeld.{clean_held, clean_tall, clean_wide, held_is, map-append, none_row, past, row_at, row_pattern, row_wide, zero_row}
+use Rattle.matrix.proofs.StepHeld.{clean_held, clean_tall, clean_wide, held_is, map-append, none_row, past, row_at, row_long, row_pattern, row-view, row_wide, zero_row}
 use Rattle.matrix.proofs.StepLaws.{row_path}
 use Rattle.matrix.specs.declared.Matrix.{Matrix}
-use Rattle.matrix.specs.Mat.{Clean, matrix_from, view}
+use Rattle.matrix.specs.Mat.{Clean, matrix_from, stripped, view}
 use Rattle.rows.proofs.Walked.{length-walk}
-use Rattle.rows.specs.declared.Nets.{Nets}
 use Rattle.rows.specs.declared.Row.{Row}
-use Rattle.rows.specs.declared.Settled.{Settled}
-use Rattle.rows.specs.Rows.{flags, nets_from, row_from, settled}
+use Rattle.rows.specs.Rows as rows
+use Rattle.rows.specs.Rows.{flags, row_from, settled}
 use Rattle.rules.specs.Bounds.{columns_max, rows_max}
 use Rattle.rules.specs.Given.{SizedRows}
-use Rattle.rules.specs.Matrix.{Row as RowOf}
+use Rattle.rules.specs.Matrix.{all_x, Row as RowOf}
 use Rattle.rules.specs.Normalize.{again}
 use Rattle.rules.specs.Steps.{walk, walk_rows}
 use Rattle.rules.specs.Trits.{is_x}
+use Rattle.std.proofs.lemmas.List.Recursion.{is_count_by}
+use Rattle.std.specs.List.{count_by}
+use Rattle.std.specs.Prelude.{None, Option as Told, Some}
 
 -- ---- the first j places are those of a, the others are those of b
 
@@ -134,13 +138,16 @@ sofar_more ns whole rest x y b a u v j k h g w p e f s =
 
 -- ---- a row that was walked
 
-settled_gone : (o : Option (List ℕ)) (t : Settled) → t ≡ settled o → t.gone ≡ true → o ≡ none
-settled_gone none t e f = refl
-settled_gone (some ms) t e f = absurd (true≢false (sym f ∙ ap (λ (x : Settled). x.gone) e))
+abbrev Settled : Type 0
+Settled = Told (List ℕ)
 
-settled_stays : {P : Type 0} (o : Option (List ℕ)) (t : Settled) → t ≡ settled o → t.gone ≡ false → ((ms : List ℕ) → o ≡ some ms → t.pattern ≡ vec columns_max 0 ms → P) → P
-settled_stays none t e f k = absurd (true≢false (sym (ap (λ (x : Settled). x.gone) e) ∙ f))
-settled_stays (some ms) t e f k = k ms refl (ap (λ (x : Settled). x.pattern) e)
+settled_gone : (o : Option (List ℕ)) (t : Settled) → t ≡ settled o → t ≡ None → o ≡ none
+settled_gone none t e f = refl
+settled_gone (some ms) t e f = absurd (let q : ◌≡◌ {A = Settled} (Some (vec columns_max 0 ms)) None = sym e ∙ f in cc)
+
+settled_stays : {P : Type 0} (o : Option (List ℕ)) (t : Settled) (p : List ℕ) → t ≡ settled o → t ≡ Some p → ((ms : List ℕ) → o ≡ some ms → p ≡ vec columns_max 0 ms → P) → P
+settled_stays none t p e f k = absurd (let q : ◌≡◌ {A = Settled} None (Some p) = sym e ∙ f in cc)
+settled_stays (some ms) t p e f k = k ms refl (let q : ◌≡◌ {A = Settled} (Some p) (Some (vec columns_max 0 ms)) = sym f ∙ e in cc)
 
 module _ (ns : List ℕ) (last : Option (List ℕ)) (rs : List RowOf) (j : ℕ) (h : j < length rs) where
   abbrev at : RowOf
@@ -162,10 +169,9 @@ module _ (ns : List ℕ) (last : Option (List ℕ)) (rs : List RowOf) (j : ℕ) 
 -- ---- a turn of the loop over the rows of a clean matrix
 
 module _ (m : Matrix) (c : Clean m) (last : Option (List ℕ)) (j : ℕ) (h : j < m.count) (whole : List RowOf) (z : Row) (e : z ≡ zero_row) (a : List Row) (u : List Bool) (k : ℕ)
-    (s : Sofar (view m).nets whole (walk_rows (view m).nets last (drop j (view m).rows)) m.rows a u j k) where
-  -- the row as read
-  abbrev p : List ℕ
-  p = take m.columns (get_or a j past).pattern
+    (s : Sofar (view m).nets whole (walk_rows (view m).nets last (drop j (view m).rows)) m.rows a u j k) (y : Row) (taken : y ≡ get_or a j past) where
+  abbrev ns : List ℕ
+  ns = (view m).nets
 
   abbrev row : RowOf
   row = get_or (view m).rows j none_row
@@ -176,56 +182,61 @@ module _ (m : Matrix) (c : Clean m) (last : Option (List ℕ)) (j : ℕ) (h : j 
   inside : j < length (view m).rows
   inside = omega (arith, h, (clean_held m c).count)
 
-  read : get_or a j past ≡ get_or m.rows j past
-  read = sofar_read (view m).nets whole (walk_rows (view m).nets last (drop j (view m).rows)) m.rows a u j k low s
+  read : y ≡ get_or m.rows j past
+  read = taken ∙ sofar_read ns whole (walk_rows ns last (drop j (view m).rows)) m.rows a u j k low s
 
-  given : p ≡ row.pattern
-  given = ap (λ (r : Row). take m.columns r.pattern) read ∙ row_pattern m c j h
+  -- by its own length, and by the columns
+  own : (rows.view y).pattern ≡ row.pattern
+  own = ap (λ (r : Row). (rows.view r).pattern) read ∙ ap (λ (r : RowOf). r.pattern) (row-view m c j h)
 
-  pub turn_clean : (get_or a j past).pattern ≡ vec columns_max 0 p
+  given : take (length ns) y.pattern ≡ row.pattern
+  given = ap₂ (λ (n : ℕ) (r : Row). take n r.pattern) (sym (clean_held m c).columns) read ∙ row_pattern m c j h
+
+  pub turn_clean : y.pattern ≡ vec columns_max 0 (take (length ns) y.pattern)
   turn_clean = ap (λ (r : Row). r.pattern) (read ∙ row_at m c j h) ∙ ap (vec columns_max 0) (sym given)
 
-  walk_is : walk (view m).nets m.columns 0 p ≡ walk (view m).nets (length (view m).nets) 0 row.pattern
-  walk_is = ap₂ (λ (n : ℕ) (q : List ℕ). walk (view m).nets n 0 q) (clean_held m c).columns given
+  walk_is : walk ns (length ns) 0 (take (length ns) y.pattern) ≡ walk ns (length ns) 0 row.pattern
+  walk_is = ap (walk ns (length ns) 0) given
 
   long : length m.rows ≡ rows_max
   long = ap length (clean_held m c).rows ∙ length-vec rows_max zero_row (map row_from (view m).rows)
 
-  blanked : Sofar (view m).nets whole (walk_rows (view m).nets last (drop j (view m).rows)) m.rows (set a j z) u (j + 1) k
-  blanked = sofar_blank (view m).nets whole (walk_rows (view m).nets last (drop j (view m).rows)) z m.rows a u j k low long e s
+  blanked : Sofar ns whole (walk_rows ns last (drop j (view m).rows)) m.rows (set a j z) u (j + 1) k
+  blanked = sofar_blank ns whole (walk_rows ns last (drop j (view m).rows)) z m.rows a u j k low long e s
 
-  pub turn_again : again last p ≡ true → Sofar (view m).nets whole (walk_rows (view m).nets last (drop (j + 1) (view m).rows)) m.rows (set a j z) u (j + 1) k
-  turn_again e = sofar_on (view m).nets whole _ _ m.rows (set a j z) u (j + 1) k (walked-again (view m).nets last (view m).rows j inside (ap (again last) (sym given) ∙ e)) blanked
+  pub turn_again : again last (rows.view y).pattern ≡ true → Sofar ns whole (walk_rows ns last (drop (j + 1) (view m).rows)) m.rows (set a j z) u (j + 1) k
+  turn_again e = sofar_on ns whole _ _ m.rows (set a j z) u (j + 1) k (walked-again ns last (view m).rows j inside (ap (again last) (sym own) ∙ e)) blanked
 
   -- to what a row is next to, the pattern as given
-  next_is : walk_rows (view m).nets (some row.pattern) (drop (j + 1) (view m).rows) ≡ walk_rows (view m).nets (some p) (drop (j + 1) (view m).rows)
-  next_is = ap (λ (q : List ℕ). walk_rows (view m).nets (some q) (drop (j + 1) (view m).rows)) (sym given)
+  next_is : walk_rows ns (some row.pattern) (drop (j + 1) (view m).rows) ≡ walk_rows ns (some (rows.view y).pattern) (drop (j + 1) (view m).rows)
+  next_is = ap (λ (q : List ℕ). walk_rows ns (some q) (drop (j + 1) (view m).rows)) (sym own)
 
-  pub turn_gone : (t : Settled) → again last p ≡ false → t ≡ settled (walk (view m).nets m.columns 0 p) → t.gone ≡ true
-      → Sofar (view m).nets whole (walk_rows (view m).nets (some p) (drop (j + 1) (view m).rows)) m.rows (set a j z) u (j + 1) k
+  pub turn_gone : (t : Settled) → again last (rows.view y).pattern ≡ false → t ≡ settled (walk ns (length ns) 0 (take (length ns) y.pattern)) → t ≡ None
+      → Sofar ns whole (walk_rows ns (some (rows.view y).pattern) (drop (j + 1) (view m).rows)) m.rows (set a j z) u (j + 1) k
   turn_gone t e f g =
-      let o : walk (view m).nets (length (view m).nets) 0 row.pattern ≡ none = sym walk_is ∙ settled_gone _ t f g in
-      sofar_on (view m).nets whole _ _ m.rows (set a j z) u (j + 1) k (walked_gone (view m).nets last (view m).rows j inside (ap (again last) (sym given) ∙ e) o ∙ next_is) blanked
+      let o : walk ns (length ns) 0 row.pattern ≡ none = sym walk_is ∙ settled_gone _ t f g in
+      sofar_on ns whole _ _ m.rows (set a j z) u (j + 1) k (walked_gone ns last (view m).rows j inside (ap (again last) (sym own) ∙ e) o ∙ next_is) blanked
 
-  pub turn_stays : (t : Settled) (v : List Bool) → again last p ≡ false → t ≡ settled (walk (view m).nets m.columns 0 p) → t.gone ≡ false
-      → v ≡ vec columns_max false (flags (λ (i mask : ℕ). get_or u i false || not (is_x mask)) (take m.columns t.pattern))
-      → Sofar (view m).nets whole (walk_rows (view m).nets (some p) (drop (j + 1) (view m).rows)) m.rows
-      (set (set a j z) k (record { pattern = t.pattern; len = m.columns; rules = (get_or a j past).rules })) v (j + 1) (k + 1)
-  turn_stays t v e f g r =
-      settled_stays (walk (view m).nets m.columns 0 p) t f g
+  pub turn_stays : (t : Settled) (p : List ℕ) (v : List Bool) → again last (rows.view y).pattern ≡ false → t ≡ settled (walk ns (length ns) 0 (take (length ns) y.pattern)) → t ≡ Some p
+      → v ≡ vec columns_max false (flags (λ (i mask : ℕ). get_or u i false || not (is_x mask)) (take (length ns) p))
+      → Sofar ns whole (walk_rows ns (some (rows.view y).pattern) (drop (j + 1) (view m).rows)) m.rows
+      (set (set a j z) k (record { pattern = p; len = y.len; rules = y.rules })) v (j + 1) (k + 1)
+  turn_stays t p v e f g r =
+      settled_stays (walk ns (length ns) 0 (take (length ns) y.pattern)) t p f g
       (λ ms o q.
-      let w : walk (view m).nets (length (view m).nets) 0 row.pattern ≡ some ms = sym walk_is ∙ o in
-      let l : length ms ≡ m.columns = length-walk (view m).nets (length (view m).nets) 0 row.pattern ms w ∙ row_wide m c j h in
+      let w : walk ns (length ns) 0 row.pattern ≡ some ms = sym walk_is ∙ o in
+      let l : length ms ≡ m.columns = length-walk ns (length ns) 0 row.pattern ms w ∙ row_wide m c j h in
       let b : m.columns ≤ columns_max = clean_wide m c in
       let x : RowOf = record { pattern = ms; rules = row.rules } in
-      let y : Row = record { pattern = t.pattern; len = m.columns; rules = (get_or a j past).rules } in
-      let n = walked_stays (view m).nets last (view m).rows j inside ms (ap (again last) (sym given) ∙ e) w in
-      let i : take m.columns t.pattern ≡ ms = ap₂ (λ (d : ℕ) (p : List ℕ). take d p) (sym l) q ∙ take-vec columns_max 0 ms (omega arith) in
+      let moved : Row = record { pattern = p; len = y.len; rules = y.rules } in
+      let n = walked_stays ns last (view m).rows j inside ms (ap (again last) (sym own) ∙ e) w in
+      let i : take (length ns) p ≡ ms = ap₂ (λ (d : ℕ) (p : List ℕ). take d p) (sym (clean_held m c).columns ∙ sym l) q ∙ take-vec columns_max 0 ms (omega arith) in
       let d : v ≡ vec columns_max false (flags (λ (i mask : ℕ). get_or u i false || not (is_x mask)) ms) =
       r ∙ ap (λ (p : List ℕ). vec columns_max false (flags (λ (i mask : ℕ). get_or u i false || not (is_x mask)) p)) i in
-      sofar_more (view m).nets whole _ x y m.rows (set a j z) u v (j + 1) k (omega (arith, s.below)) (omega (arith, low)) c.sized.wide
-      (l ∙ (clean_held m c).columns) (row_path y (row_from x) q (sym l) (ap (λ (r : Row). r.rules) (read ∙ row_at m c j h))) d
-      (sofar_on (view m).nets whole _ _ m.rows (set a j z) u (j + 1) k (n ∙ ap (λ (l : List RowOf). x ∷ l) next_is) blanked))
+      let n_long : y.len ≡ length ms = ap (λ (r : Row). r.len) read ∙ row_long m c j h ∙ sym l in
+      sofar_more ns whole _ x moved m.rows (set a j z) u v (j + 1) k (omega (arith, s.below)) (omega (arith, low)) c.sized.wide
+      (l ∙ (clean_held m c).columns) (row_path moved (row_from x) q n_long (ap (λ (r : Row). r.rules) (read ∙ row_at m c j h))) d
+      (sofar_on ns whole _ _ m.rows (set a j z) u (j + 1) k (n ∙ ap (λ (l : List RowOf). x ∷ l) next_is) blanked))
 
 walked_end : (ns : List ℕ) (last : Option (List ℕ)) (rs : List RowOf) (j : ℕ) → length rs ≤ j → walk_rows ns last (drop j rs) ≡ []
 unfolding walk_rows
@@ -262,9 +273,25 @@ module _ (m r : Matrix) (c : Clean m) (last : Option (List ℕ)) (u : List Bool)
 abbrev pub kept_row : List Bool → RowOf → RowOf
 kept_row gs r = record { pattern = kept gs r.pattern; rules = r.rules }
 
--- the same in the slots, where k columns stay of n
-abbrev pub kept_slot : List Bool → ℕ → ℕ → Row → Row
-kept_slot gone n k r = record { pattern = vec columns_max 0 (kept (take n gone) (take n r.pattern)); len = k; rules = r.rules }
+-- as many as are not gone
+pub length-kept_of : (gs : List Bool) (l : List ℕ) → length gs ≡ length l → length (kept gs l) ≡ count_by not gs
+unfolding kept
+length-kept_of gs l e = stay gs l e ∙ is_count_by left not refl (λ g gs. flip g (left gs)) gs
+  where
+    left : List Bool → ℕ
+    left [] = 0
+    left (g ∷ gs) = cond g (left gs) (1 + left gs)
+
+    flip : (g : Bool) (n : ℕ) → cond g n (1 + n) ≡ cond (not g) (1 + n) n
+    flip true n = refl
+    flip false n = refl
+
+    stay : (gs : List Bool) (l : List ℕ) → length gs ≡ length l → length (kept gs l) ≡ left gs
+    stay [] [] e = refl
+    stay [] (x ∷ l) e = absurd (omega arith)
+    stay (g ∷ gs) [] e = absurd (omega arith)
+    stay (true ∷ gs) (x ∷ l) e = stay gs l (omega arith)
+    stay (false ∷ gs) (x ∷ l) e = let r = stay gs l (omega arith) in omega arith
 
 pub length_alike : (gs : List Bool) (a b : List ℕ) → length a ≡ length b → length (kept gs a) ≡ length (kept gs b)
 unfolding kept
@@ -275,37 +302,55 @@ length_alike (g ∷ gs) (x ∷ a) [] e = absurd (omega arith)
 length_alike (true ∷ gs) (x ∷ a) (y ∷ b) e = length_alike gs a b (omega arith)
 length_alike (false ∷ gs) (x ∷ a) (y ∷ b) e = ap suc (length_alike gs a b (omega arith))
 
-slots_kept : (gone : List Bool) (ns : List ℕ) (rs : List RowOf) → length ns ≤ columns_max → SizedRows (length ns) rs
-    → map (kept_slot gone (length ns) (length (kept (take (length ns) gone) ns))) (map row_from rs) ≡ map row_from (map (kept_row (take (length ns) gone)) rs)
+slots_kept : (gs : List Bool) (ns : List ℕ) (rs : List RowOf) → length ns ≤ columns_max → SizedRows (length ns) rs
+    → map (stripped gs (length (kept gs ns))) (map row_from rs) ≡ map row_from (map (kept_row gs) rs)
 unfolding SizedRows
-slots_kept gone ns [] h s = refl
-slots_kept gone ns (r ∷ rs) h s =
-    let gs : List Bool = take (length ns) gone in
-    let t : take (length ns) (vec columns_max 0 r.pattern) ≡ r.pattern =
-    ap (λ (n : ℕ). take n (vec columns_max 0 r.pattern)) (sym s.0) ∙ take-vec columns_max 0 r.pattern (omega (arith, s.0)) in
+slots_kept gs ns [] h s = refl
+slots_kept gs ns (r ∷ rs) h s =
+    let t : (rows.view (row_from r)).pattern ≡ r.pattern = take-vec columns_max 0 r.pattern (omega (arith, s.0)) in
     ap₂ ◌∷◌
-    (row_path (kept_slot gone (length ns) (length (kept gs ns)) (row_from r)) (row_from (kept_row gs r))
+    (row_path (stripped gs (length (kept gs ns)) (row_from r)) (row_from (kept_row gs r))
     (ap (λ (q : List ℕ). vec columns_max 0 (kept gs q)) t) (length_alike gs ns r.pattern (sym s.0)) refl)
-    (slots_kept gone ns rs h s.2)
+    (slots_kept gs ns rs h s.2)
 
-pub stripped : (m r : Matrix) (gone : List Bool) (w : Nets) (i : ℕ) → Clean m → i ≡ m.count → w ≡ nets_from (kept (take m.columns gone) (view m).nets)
-    → r.value ≡ w.value → r.columns ≡ w.columns → r.rows ≡ map_to (kept_slot gone m.columns w.columns) i m.rows → r.count ≡ m.count
-    → r ≡ matrix_from (record { nets = kept (take m.columns gone) (view m).nets; rows = map (kept_row (take m.columns gone)) (view m).rows })
-stripped m r gone w i c e n v k s t =
+-- gs flags the columns of m, and k of them stay
+pub all_stripped : (m r : Matrix) (gs : List Bool) (k i : ℕ) → Clean m → length gs ≡ m.columns → k ≡ count_by not gs → i ≡ m.count
+    → r.value ≡ vec columns_max 0 (kept gs (view m).nets) → r.columns ≡ k → r.rows ≡ map_to (stripped gs k) i m.rows → r.count ≡ m.count
+    → r ≡ matrix_from (record { nets = kept gs (view m).nets; rows = map (kept_row gs) (view m).rows })
+all_stripped m r gs k i c n w e v q s t =
     let h = clean_held m c in
     let ns : List ℕ = (view m).nets in
     let rs : List RowOf = (view m).rows in
-    let gs : List Bool = take m.columns gone in
     let l : length (map row_from rs) ≡ length rs = length-map rs row_from in
-    let f : Row → Row = kept_slot gone (length ns) (length (kept (take (length ns) gone) ns)) in
-    let a : map_to (kept_slot gone m.columns w.columns) i m.rows ≡ map_to f (length (map row_from rs)) (vec rows_max zero_row (map row_from rs)) =
-    λ z. map_to (kept_slot gone (h.columns z) ((ap (λ (x : Nets). x.columns) n ∙ ap (λ (d : ℕ). length (kept (take d gone) ns)) h.columns) z)) ((e ∙ h.count ∙ sym l) z) (h.rows z) in
+    let z : length gs ≡ length ns = n ∙ h.columns in
+    let y : k ≡ length (kept gs ns) = w ∙ sym (length-kept_of gs ns z) in
+    let f : Row → Row = stripped gs (length (kept gs ns)) in
+    let a : map_to (stripped gs k) i m.rows ≡ map_to f (length (map row_from rs)) (vec rows_max zero_row (map row_from rs)) =
+    λ j. map_to (stripped gs (y j)) ((e ∙ h.count ∙ sym l) j) (h.rows j) in
     let tall = c.sized.tall in
     held_is r (kept gs ns) (map (kept_row gs) rs)
     record {
-      value = v ∙ ap (λ (x : Nets). x.value) n;
-      columns = k ∙ ap (λ (x : Nets). x.columns) n;
-      rows = s ∙ a ∙ map_to-vec f rows_max zero_row (map row_from rs) (omega arith)
-          ∙ ap (vec rows_max zero_row) (slots_kept gone ns rs c.sized.wide c.sized.each ∙ ap (λ (d : ℕ). map row_from (map (kept_row (take d gone)) rs)) (sym h.columns));
+      value = v;
+      columns = q ∙ y;
+      rows = s ∙ a ∙ map_to-vec f rows_max zero_row (map row_from rs) (omega arith) ∙ ap (vec rows_max zero_row) (slots_kept gs ns rs c.sized.wide c.sized.each);
       count = t ∙ h.count ∙ sym (length-map rs (kept_row gs));
     }
+
+-- ---- a row against the last one
+
+same_is : (a b : List ℕ) → pointwise eqb a b ≡ same a b
+unfolding same
+same_is [] [] = refl
+same_is [] (y ∷ b) = refl
+same_is (x ∷ a) [] = refl
+same_is (x ∷ a) (y ∷ b) = ap (λ (t : Bool). eqb x y && t) (same_is a b)
+
+module _ (ms last p q : List ℕ) (r : Bool) (e : p ≡ ms) (f : q ≡ last) (h : r ≡ pointwise eqb p q) where
+  alike : r ≡ same ms last
+  alike = h ∙ ap₂ (pointwise eqb) e f ∙ same_is ms last
+
+  pub again-same : r ≡ true → r ≡ again (some last) ms
+  again-same b = b ∙ (let s = sym alike ∙ b in rw s)
+
+  pub again-all : r ≡ false → (s : List ℕ) (u : Bool) → s ≡ last → u ≡ all_x s → u ≡ again (some last) ms
+  again-all b s u g k = k ∙ ap all_x g ∙ (let e = sym alike ∙ b in rw e)

@@ -1,5 +1,6 @@
 -- A clean matrix: lists in arrays, with 0 past every count, and its rows one by one. Assumes nothing.
 use lib.ListN.{get_or, length, length-map, take}
+use lib.Seq.{length-take-le}
 use mathlib.Core.List.{[], ◌++◌, ◌∷◌, List, map}
 use mathlib.Core.Path.{◌∙◌, ◌≡◌, ap, refl, sym}
 use native.Mathlib.Nat.{le_of_suc-le-suc, not-suc-le-zero}
@@ -31,6 +32,13 @@ past = record { pattern = []; len = 0; rules = record { items = []; count = 0 } 
 -- ---- lists and arrays
 
 module _ {A : Type 0} where
+  -- among the first n, as in the array
+  pub front_at : (n : ℕ) (l : List A) (i : ℕ) (d : A) → i < length (take n l) → (i < n) × (get_or (take n l) i d ≡ get_or l i d)
+  front_at zero l i d h = absurd (not-suc-le-zero h)
+  front_at (suc n) [] i d h = absurd (not-suc-le-zero h)
+  front_at (suc n) (x ∷ l) zero d h = (omega arith, refl)
+  front_at (suc n) (x ∷ l) (suc i) d h = let r = front_at n l i d (le_of_suc-le-suc h) in (omega (arith, r.0), r.1)
+
   pub get_d_any : (l : List A) (i : ℕ) (d e : A) → i < length l → get_or l i d ≡ get_or l i e
   get_d_any [] i d e h = absurd (not-suc-le-zero h)
   get_d_any (x ∷ l) zero d e h = refl
@@ -88,6 +96,12 @@ module _ (m : Matrix) (c : Clean m) where
   pub clean_tall : m.count ≤ rows_max
   clean_tall = omega (arith, (clean_held m c).count, c.sized.tall)
 
+-- as many slots are in use as the count says
+pub clean_used : (m : Matrix) → Clean m → length (take m.count m.rows) ≡ m.count
+clean_used m c =
+    let l = ap length (clean_held m c).rows ∙ length-vec rows_max zero_row (map row_from (view m).rows) in
+    length-take-le m.count m.rows (omega (arith, l, clean_tall m c))
+
 -- ---- a row of it
 
 pub sized_at : (w : ℕ) (rs : List RowOf) (i : ℕ) → SizedRows w rs → i < length rs → (length (get_or rs i none_row).pattern ≡ w) × (length (get_or rs i none_row).rules ≤ rules_max)
@@ -124,7 +138,7 @@ module _ (m : Matrix) (c : Clean m) (i : ℕ) (b : i < m.count) where
   pub row-view : rows.view (get_or m.rows i past) ≡ row
   row-view = ap rows.view row_at ∙ view_row_lem row (omega (arith, row_wide, clean_wide m c)) row-few
 
-  pub row_tidy : get_or m.rows i past ≡ row_from (rows.view (get_or m.rows i past))
+  pub row_tidy : rows.Tidy (get_or m.rows i past)
   row_tidy = row_at ∙ ap row_from (sym row-view)
 
   pub row_long : (get_or m.rows i past).len ≡ m.columns

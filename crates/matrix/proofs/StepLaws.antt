@@ -1,13 +1,13 @@
 -- A net made a constant, and the enable's column and row, in the arrays of a clean matrix. Assumes nothing.
 use lib.Dec.{eqb}
-use lib.ListN.{get_or, length, length-append, length-map, replicate, set, take}
+use lib.ListN.{drop, get_or, length, length-append, length-map, replicate, set, take}
 use lib.Seq.{take_all}
 use mathlib.Core.Bool.{false}
 use mathlib.Core.List.{[], ◌++◌, ◌∷◌, List, map}
-use mathlib.Core.Path.{◌∙◌, ◌≡◌, ap, ap₂, sym}
+use mathlib.Core.Path.{◌∙◌, ◌≡◌, ap, ap₂, refl, sym}
 use native.Mathlib.Numerals.{add-one}
 use native.Mathlib.Omega.{arith}
-use Prim.Native.Nat.{◌+◌, ◌<◌, suc, ℕ}
+use Prim.Native.Nat.{◌+◌, ◌<◌, suc, zero, ℕ}
 use Rattle.lists.specs.Lists.{map_to}
 use Rattle.lists.specs.Vec.{fill, map_to-vec, push, vec, vec_none}
 use Rattle.matrix.proofs.StepHeld.{clean_held, held_is, none_row, past, row-view, zero_row}
@@ -36,10 +36,20 @@ assumed m t b v c e =
       count = h.count;
     }
 
+pub map_all : {A : Type 0} (f : A → A) (l : List A) → map_to f (length l) l ≡ map f l
+map_all f [] = refl
+map_all {A = A} f (x ∷ l) = ap (λ (r : List A). f x ∷ r) (map_all f l)
+
+-- what a call made of the first n of an array that were lent to it, with the others behind
+pub map_front : {A : Type 0} (f : A → A) (n : ℕ) (l : List A) → map f (take n l) ++ drop n l ≡ map_to f n l
+map_front f zero l = refl
+map_front f (suc n) [] = refl
+map_front {A = A} f (suc n) (x ∷ l) = ap (λ (r : List A). f x ∷ r) (map_front f n l)
+
 pub row_path : (r s : Row) → r.pattern ≡ s.pattern → r.len ≡ s.len → r.rules ≡ s.rules → r ≡ s
 row_path r s p q u = λ i. record { pattern = p i; len = q i; rules = u i }
 
-pub widened_is : (r : Row) → r ≡ row_from (rows.view r) → r.len < columns_max → record { pattern = set r.pattern r.len 1; len = r.len + 1; rules = r.rules } ≡ row_from (widened (rows.view r))
+pub widened_is : (r : Row) → rows.Tidy r → r.len < columns_max → record { pattern = set r.pattern r.len 1; len = r.len + 1; rules = r.rules } ≡ row_from (widened (rows.view r))
 widened_is r e h =
     let q : RowOf = rows.view r in
     let l : r.len ≡ length q.pattern = ap (λ (x : Row). x.len) e in
@@ -88,12 +98,12 @@ module _ (m : Matrix) (c : Clean m) where
 
   pub enabled_is : (enable i : ℕ) (a : List Row) → i ≡ m.count → m.columns < columns_max → m.count < rows_max → eqb enable 1 ≡ false
       → a ≡ vec rows_max zero_row (take (i + 1) (map row_from enabled_rows))
-      → record { value = set m.value m.columns enable; columns = m.columns + 1; rows = a; count = i + 1 } ≡ matrix_from (add_enable enable (view m))
+      → record { value = set m.value m.columns enable; columns = m.columns + 1; rows = a; count = m.count + 1 } ≡ matrix_from (add_enable enable (view m))
   enabled_is enable i a e w t f s =
       let h = clean_held m c in
       let l = length_enabled in
       let k = h.columns in
-      rw f (held_is (record { value = set m.value m.columns enable; columns = m.columns + 1; rows = a; count = i + 1 }) ((view m).nets ++ (enable ∷ [])) enabled_rows
+      rw f (held_is (record { value = set m.value m.columns enable; columns = m.columns + 1; rows = a; count = m.count + 1 }) ((view m).nets ++ (enable ∷ [])) enabled_rows
       record {
         value = ap₂ (λ (v : List ℕ) (n : ℕ). set v n enable) h.value k ∙ push columns_max 0 (view m).nets enable (omega arith);
         columns = ap (λ (n : ℕ). n + 1) k ∙ sym (length-append (view m).nets (enable ∷ []));

@@ -1,5 +1,5 @@
 -- What is wrong with a matrix handed in, of the structs. Assumes nothing: these are definitions.
-use Rattle.std.specs.Prelude.{eqb, leb, Bool, cond, false, ◌≡◌, ◌+◌, ℕ}
+use Rattle.std.specs.Prelude.{eqb, leb, Bool, cond, false, ◌||◌, [], ◌∷◌, ◌≡◌, ◌+◌, ℕ}
 use Rattle.lists.specs.Lists.{all}
 use Rattle.matrix.specs.declared.Faults.{Faults}
 use Rattle.matrix.specs.declared.Matrix.{Matrix}
@@ -9,6 +9,7 @@ use Rattle.rows.specs.Rows as rows
 use Rattle.rules.specs.Bounds.{net_max, rules_max}
 use Rattle.rules.specs.Given.{bad_columns, bad_form, bad_net, bad_rows, bad_rules, bad_shape, formed_row, Given}
 use Rattle.rules.specs.Nets.{cell, is_name, is_net}
+use Rattle.rules.specs.Refuse.{COLUMNS, FORM, NET, ROWS, RULES, SHAPE, Table}
 
 -- ---- the tests of one row
 
@@ -29,6 +30,15 @@ few r = leb r.rules.count rules_max
 abbrev pub faults_of : Given → Faults
 faults_of g =
     record { form = bad_form g; columns = bad_columns g; rows = bad_rows g; shape = bad_shape g; net = bad_net g; rules = bad_rules g }
+
+-- those of either
+abbrev pub either : Faults → Faults → Faults
+either f g =
+    record { form = f.form || g.form; columns = f.columns || g.columns; rows = f.rows || g.rows; shape = f.shape || g.shape; net = f.net || g.net; rules = f.rules || g.rules }
+
+-- with the number that each is
+abbrev pub table : Faults → Table
+table f = (FORM, f.form) ∷ (COLUMNS, f.columns) ∷ (ROWS, f.rows) ∷ (SHAPE, f.shape) ∷ (NET, f.net) ∷ (RULES, f.rules) ∷ []
 
 -- none of the four that say its size
 pub record Fits (m : Matrix) : Type 0 where

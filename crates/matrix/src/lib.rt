@@ -7,9 +7,12 @@ ghost use Rattle.matrix.specs.Mat.{given, made_from};
 ghost use Rattle.matrix.specs.Outs.{outputs_from};
 ghost use Rattle.rules.specs.Answers.{add_answer, assume_answer, enable_answer, merge_answer, new_answer, normalize_answer, outputs_answer};
 ghost use Rattle.rules.specs.Codes.{net_code, trit_code};
+ghost use Rattle.rules.specs.Refused.{number_of};
+
+use rules::{Net, Refusal, Trit};
 
 #[repr(C)]
-#[derive(Clone, Copy)]
+#[derive(Clone, Copy, PartialEq, Eq)]
 pub struct Matrix {
     pub value: [u16; rules::COLUMNS_MAX],
     pub columns: usize,
@@ -35,7 +38,7 @@ pub struct Outputs {
 }
 
 // Which numbers apply to a matrix by itself.
-#[derive(Clone, Copy)]
+#[derive(Clone, Copy, Default)]
 pub struct Faults {
     pub form: bool,
     pub columns: bool,
@@ -47,133 +50,102 @@ pub struct Faults {
 
 pub mod inner;
 
+impl Made {
+    fn done(matrix: Matrix) -> Made
+        ensures { result ≡ record { no = 0; matrix = matrix } }
+    {
+        Made { no: 0, matrix }
+    }
+
+    fn refused(why: Refusal, matrix: Matrix) -> Made
+        ensures { result ≡ record { no = number_of why; matrix = matrix } }
+    {
+        Made {
+            no: u8::from(why),
+            matrix,
+        }
+    }
+}
+
 impl Matrix {
     // A refused new matrix is the one without columns and rows.
     pub fn new(nets: &[u16]) -> Made
         ensures { result ≡ made_from (new_answer nets.now) }
     {
-        let no = inner::numbers::new(nets);
-        if no != 0 {
-            return Made {
-                no: no,
-                matrix: inner::blank::none(),
-            };
+        if let Err(why) = inner::numbers::new(nets) {
+            return Made::refused(why, inner::blank::none());
         }
-        Made {
-            no: 0,
-            matrix: inner::build::fresh(nets),
-        }
+        Made::done(inner::build::fresh(nets))
     }
 
     // One row more, the last, with its rules as a set.
     pub fn add(mut self, pattern: &[u8], rules: &[u16]) -> Made
         ensures { result ≡ made_from (add_answer pattern.now rules.now (given self)) }
     {
-        let set = sets::inner::collect(rules);
-        let no = inner::numbers::add(self, pattern, rules, set.many);
-        if no != 0 {
-            return Made {
-                no: no,
-                matrix: self,
-            };
-        }
-        let row = inner::build::row(pattern, set.rules);
+        let set = match inner::numbers::add(&self, pattern, rules) {
+            Ok(set) => set,
+            Err(why) => return Made::refused(why, self),
+        };
         self = inner::tidy::tidy(self);
-        self = inner::build::push(self, row);
-        Made {
-            no: 0,
-            matrix: self,
-        }
+        self = inner::build::push(self, inner::build::row(pattern, set));
+        Made::done(self)
     }
 
     // Every row that names the net is joined with each of the child's.
-    pub fn merge(mut self, at: rules::Net, child: Matrix) -> Made
+    pub fn merge(mut self, at: Net, child: Matrix) -> Made
         ensures { result ≡ made_from (merge_answer (net_code at) (given self) (given child)) }
     {
-        let t = trits::inner::code(at);
-        let no = inner::numbers::merge(self, t, child);
-        if no != 0 {
-            return Made {
-                no: no,
-                matrix: self,
-            };
+        let at = u32::from(at);
+        if let Err(why) = inner::numbers::merge(&self, at, &child) {
+            return Made::refused(why, self);
         }
         self = inner::tidy::tidy(self);
-        let other = inner::tidy::tidy(child);
-        self = inner::merge::merge(self, inner::codes::short(t), other);
-        Made {
-            no: 0,
-            matrix: self,
-        }
+        self = inner::merge::merge(self, at as u16, inner::tidy::tidy(child));
+        Made::done(self)
     }
 
     // The target becomes the constant in every column that has it.
-    pub fn assume(mut self, target: rules::Net, value: rules::Trit) -> Made
+    pub fn assume(mut self, target: Net, value: Trit) -> Made
         ensures { result ≡ made_from (assume_answer (net_code target) (trit_code value) (given self)) }
     {
-        let t = trits::inner::code(target);
-        let no = inner::numbers::assume(self, t);
-        if no != 0 {
-            return Made {
-                no: no,
-                matrix: self,
-            };
+        let target = u32::from(target);
+        if let Err(why) = inner::numbers::assume(&self, target) {
+            return Made::refused(why, self);
         }
-        let b = trits::trit_code(value);
         self = inner::tidy::tidy(self);
-        self = inner::step::assume(self, inner::codes::short(t), b);
-        Made {
-            no: 0,
-            matrix: self,
-        }
+        self = inner::step::assume(self, target as u16, u8::from(value));
+        Made::done(self)
     }
 
     // A last column for the enable and a first row without rules, but for the constant 1.
-    pub fn add_enable(mut self, enable: rules::Net) -> Made
+    pub fn add_enable(mut self, enable: Net) -> Made
         ensures { result ≡ made_from (enable_answer (net_code enable) (given self)) }
     {
-        let e = trits::inner::code(enable);
-        let no = inner::numbers::add_enable(self, e);
-        if no != 0 {
-            return Made {
-                no: no,
-                matrix: self,
-            };
+        if let Err(why) = inner::numbers::add_enable(&self, u32::from(enable)) {
+            return Made::refused(why, self);
         }
-        self = inner::tidy::tidy(self);
-        self = inner::step::add_enable(self, inner::codes::short(e));
-        Made {
-            no: 0,
-            matrix: self,
-        }
+        self = inner::step::enable(self, enable);
+        Made::done(self)
     }
 
     pub fn normalize(mut self) -> Made
         ensures { result ≡ made_from (normalize_answer (given self)) }
     {
-        let no = inner::check::check(self);
-        if no != 0 {
-            return Made {
-                no: no,
-                matrix: self,
-            };
+        if let Err(why) = inner::check::check(&self) {
+            return Made::refused(why, self);
         }
         self = inner::tidy::tidy(self);
         self = inner::normal::normalize(self);
-        Made {
-            no: 0,
-            matrix: self,
-        }
+        Made::done(self)
     }
 
     // All rules of all rows, ascending, each once.
     pub fn outputs(self) -> Outputs
         ensures { result ≡ outputs_from (outputs_answer (given self)) }
     {
-        let no = inner::check::check(self);
-        if no != 0 {
-            return inner::outs::none(no);
+        match inner::check::check(&self) {
+            Ok(()) => inner::outs::outputs(&self),
+            Err(why) => inner::outs::refused(why),
         }
-        inner::outs::outputs(self)
     }
 }

@@ -17,6 +17,7 @@ use Rattle.rules.proofs.Columns.{get_or-mem}
 use Rattle.rules.proofs.Places.{place_lt}
 use Rattle.rules.specs.Bounds.{columns_max}
 use Rattle.rules.specs.Steps.{drops, place, takes, walk}
+use Rattle.std.specs.Prelude.{None, Some}
 
 -- ---- on lists: a column that drops the row, one that does not, and none left
 
@@ -54,63 +55,69 @@ length-walk ns (suc k) j ms l e =
     (λ d. let q = rw d at e in let z : ◌≡◌ {A = ℕ} 0 1 = cc in absurd (omega arith))
     (λ d. r (rw d at e) ∙ length-set ms f y)
 
--- ---- in an array: it has 0 past the n columns, and what is left to walk gives what the whole walk gives
+-- ---- in an array: it has 0 past the columns, and what is left to walk gives what the whole walk gives
 
-pub record Going (v : List ℕ) (n : ℕ) (p₀ p : List ℕ) (j : ℕ) : Type 0 where
-  pub clean : p ≡ vec columns_max 0 (take n p)
-  pub walks : walk (take n v) (n - j) j (take n p) ≡ walk (take n v) n 0 (take n p₀)
+pub record Going (ns p₀ p : List ℕ) (j : ℕ) : Type 0 where
+  pub clean : p ≡ vec columns_max 0 (take (length ns) p)
+  pub walks : walk ns (length ns - j) j (take (length ns) p) ≡ walk ns (length ns) 0 (take (length ns) p₀)
 
-pub going : (v : List ℕ) (n : ℕ) (p : List ℕ) → p ≡ vec columns_max 0 (take n p) → Going v n p p 0
-going v n p e = record { clean = e; walks = rw sub-zero }
+pub going : (ns p : List ℕ) → p ≡ vec columns_max 0 (take (length ns) p) → Going ns p p 0
+going ns p e = record { clean = e; walks = rw sub-zero }
 
 -- what is looked up for column j is its net's first column
-abbrev pub First : List ℕ → List ℕ → ℕ → ℕ → Type 0
-First v fs n j = (get_or fs j 0 ≡ place (get_or (take n v) j 0) (take n v)) × (get_or fs j 0 < n)
+pub record First (ns fs : List ℕ) (j : ℕ) : Type 0 where
+  pub at : get_or fs j 0 ≡ place (get_or ns j 0) ns
+  pub below : get_or fs j 0 < length ns
 
-pub first_is : (v fs : List ℕ) (n j : ℕ) → n ≤ columns_max → length v ≡ columns_max → j < n → fs ≡ vec columns_max 0 (places (take n v)) → First v fs n j
-first_is v fs n j h l b e =
-    let t : length (take n v) ≡ n = length-take-le n v (omega arith) in
-    let q : get_or fs j 0 ≡ place (get_or (take n v) j 0) (take n v) =
-    ap (λ (r : List ℕ). get_or r j 0) e ∙ get_or-vec columns_max 0 (places (take n v)) j (omega arith) ∙ places-at v n (omega arith) j b in
-    let s = place_lt (get_or (take n v) j 0) (take n v) (get_or-mem (take n v) j 0 (omega arith)) in
-    (q, omega arith)
+pub first_is : (ns fs : List ℕ) (j : ℕ) → length ns ≤ columns_max → j < length ns → fs ≡ vec columns_max 0 (places ns) → First ns fs j
+first_is ns fs j h b e =
+    let q : get_or fs j 0 ≡ place (get_or ns j 0) ns =
+    ap (λ (r : List ℕ). get_or r j 0) e ∙ get_or-vec columns_max 0 (places ns) j (omega arith) ∙ places-at ns j b in
+    let s = place_lt (get_or ns j 0) ns (get_or-mem ns j 0 b) in
+    record { at = q; below = omega arith }
 
--- column j, whose net is coded x and stands first in column f
-module _ (v : List ℕ) (n : ℕ) (p₀ p : List ℕ) (j f x : ℕ) (h : n ≤ columns_max) (b : j < n) (net : x ≡ get_or v j 0)
-    (at : f ≡ place (get_or (take n v) j 0) (take n v)) (below : f < n) (g : Going v n p₀ p j) where
+-- column j, whose net is coded x and stands first where fs says
+module _ (ns fs p₀ p : List ℕ) (j x : ℕ) (h : length ns ≤ columns_max) (b : j < length ns) (net : x ≡ get_or ns j 0)
+    (looked : fs ≡ vec columns_max 0 (places ns)) (g : Going ns p₀ p j) where
+  abbrev f : ℕ
+  f = get_or fs j 0
+
+  first : First ns fs j
+  first = first_is ns fs j h b looked
+
   long : length p ≡ columns_max
-  long = ap length g.clean ∙ length-vec columns_max 0 (take n p)
+  long = ap length g.clean ∙ length-vec columns_max 0 (take (length ns) p)
 
   -- what is read in the array is what stands in the list
-  read : (i : ℕ) → i < n → get_or (take n p) i 2 ≡ get_or p i 0
-  read i k = get_or-take n p i 2 k ∙ within p i (let s = long in omega arith)
+  read : (i : ℕ) → i < length ns → get_or (take (length ns) p) i 2 ≡ get_or p i 0
+  read i k = get_or-take (length ns) p i 2 k ∙ within p i (let s = long in omega arith)
     where
       within : (q : List ℕ) (i : ℕ) → i < length q → get_or q i 2 ≡ get_or q i 0
       within [] i k = absurd (omega arith)
       within (x ∷ q) zero k = refl
       within (x ∷ q) (suc i) k = within q i (omega arith)
 
-  drops_is : drops (get_or (take n v) j 0) (get_or (take n p) (place (get_or (take n v) j 0) (take n v)) 2) (get_or (take n p) j 2) ≡ drops x (get_or p f 0) (get_or p j 0)
-  drops_is = rw (← at, read f below, read j b, get_or-take n v j 0 b, net)
+  drops_is : drops (get_or ns j 0) (get_or (take (length ns) p) (place (get_or ns j 0) ns) 2) (get_or (take (length ns) p) j 2) ≡ drops x (get_or p f 0) (get_or p j 0)
+  drops_is = rw (← first.at, read f first.below, read j b, net)
 
-  takes_is : takes (get_or (take n v) j 0) (get_or (take n p) (place (get_or (take n v) j 0) (take n v)) 2) (get_or (take n p) j 2) ≡ takes x (get_or p f 0) (get_or p j 0)
-  takes_is = rw (← at, read f below, read j b, get_or-take n v j 0 b, net)
+  takes_is : takes (get_or ns j 0) (get_or (take (length ns) p) (place (get_or ns j 0) ns) 2) (get_or (take (length ns) p) j 2) ≡ takes x (get_or p f 0) (get_or p j 0)
+  takes_is = rw (← first.at, read f first.below, read j b, net)
 
-  pub going_drop : drops x (get_or p f 0) (get_or p j 0) ≡ true → settled (walk (take n v) n 0 (take n p₀)) ≡ record { gone = true; pattern = vec columns_max 0 [] }
-  going_drop e = ap settled (sym g.walks ∙ walk-drop (take n v) n j (take n p) b (drops_is ∙ e))
+  pub going_drop : drops x (get_or p f 0) (get_or p j 0) ≡ true → settled (walk ns (length ns) 0 (take (length ns) p₀)) ≡ None
+  going_drop e = ap settled (sym g.walks ∙ walk-drop ns (length ns) j (take (length ns) p) b (drops_is ∙ e))
 
-  pub going_on : (y : ℕ) → drops x (get_or p f 0) (get_or p j 0) ≡ false → y ≡ takes x (get_or p f 0) (get_or p j 0) → Going v n p₀ (set p f y) (j + 1)
+  pub going_on : (y : ℕ) → drops x (get_or p f 0) (get_or p j 0) ≡ false → y ≡ takes x (get_or p f 0) (get_or p j 0) → Going ns p₀ (set p f y) (j + 1)
   going_on y e q =
-      let t : length (take n p) ≡ n = length-take-le n p (let s = long in omega arith) in
-      let s : take n (set p f y) ≡ set (take n p) f y = take-set-lt n p f y below in
+      let t : length (take (length ns) p) ≡ length ns = length-take-le (length ns) p (let s = long in omega arith) in
+      let s : take (length ns) (set p f y) ≡ set (take (length ns) p) f y = take-set-lt (length ns) p f y first.below in
       record {
-        clean = ap (λ (r : List ℕ). set r f y) g.clean ∙ set_vec columns_max 0 (take n p) f y (omega arith) ∙ ap (vec columns_max 0) (sym s);
-        walks = ap (walk (take n v) (n - (j + 1)) (j + 1))
-            (s ∙ ap (λ (i : ℕ). set (take n p) i y) at ∙ ap (set (take n p) (place (get_or (take n v) j 0) (take n v))) (q ∙ sym takes_is))
-            ∙ sym (walk_on (take n v) n j (take n p) b (drops_is ∙ e)) ∙ g.walks;
+        clean = ap (λ (r : List ℕ). set r f y) g.clean ∙ set_vec columns_max 0 (take (length ns) p) f y (let w = first.below in omega arith) ∙ ap (vec columns_max 0) (sym s);
+        walks = ap (walk ns (length ns - (j + 1)) (j + 1))
+            (s ∙ ap (λ (i : ℕ). set (take (length ns) p) i y) first.at ∙ ap (set (take (length ns) p) (place (get_or ns j 0) ns)) (q ∙ sym takes_is))
+            ∙ sym (walk_on ns (length ns) j (take (length ns) p) b (drops_is ∙ e)) ∙ g.walks;
       }
 
-pub going_end : (v : List ℕ) (n : ℕ) (p₀ p : List ℕ) (j : ℕ) → n ≤ j → Going v n p₀ p j → settled (walk (take n v) n 0 (take n p₀)) ≡ record { gone = false; pattern = p }
-going_end v n p₀ p j h g =
-    ap settled (sym g.walks ∙ walk_end (take n v) n j (take n p) h)
-    ∙ ap (λ (r : List ℕ). record { gone = false; pattern = r }) (sym g.clean)
+pub going_end : (ns p₀ p : List ℕ) (j : ℕ) → length ns ≤ j → Going ns p₀ p j → settled (walk ns (length ns) 0 (take (length ns) p₀)) ≡ Some p
+going_end ns p₀ p j h g =
+    ap settled (sym g.walks ∙ walk_end ns (length ns) j (take (length ns) p) h)
+    ∙ ap (λ (r : List ℕ). Some r) (sym g.clean)

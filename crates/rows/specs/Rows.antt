@@ -1,10 +1,9 @@
 -- How a struct holds a row, and what normalize makes of one. Assumes nothing: these are definitions.
-use Rattle.std.specs.Prelude.{length, Bool, true, false, List, [], ◌∷◌, map, ℕ, suc}
-use Rattle.std.proofs.Math.Option.{Option, none, some}
+use Rattle.std.specs.Prelude.{length, Bool, List, [], ◌∷◌, map, ℕ, suc, Option, Some, None, ◌≡◌}
+use Rattle.std.proofs.Math.Option.{Option as Walk, none, some}
 use Rattle.lists.specs.Vec.{vec}
 use Rattle.rows.specs.declared.Nets.{Nets}
 use Rattle.rows.specs.declared.Row.{Row}
-use Rattle.rows.specs.declared.Settled.{Settled}
 use Rattle.rules.specs.Bounds.{columns_max}
 use Rattle.rules.specs.Given.{GivenRow, spread_row, view_row}
 use Rattle.rules.specs.Matrix.{Row as RowOf}
@@ -25,10 +24,14 @@ view r = view_row (given r)
 abbrev pub row_from : RowOf → Row
 row_from r = from (spread_row r)
 
+-- it has 0 past every count
+abbrev pub Tidy : Row → Type 0
+Tidy r = r ≡ row_from (view r)
+
 -- a row that was walked: none if it is dropped
-abbrev pub settled : Option (List ℕ) → Settled
-settled none = record { gone = true; pattern = vec columns_max 0 [] }
-settled (some ms) = record { gone = false; pattern = vec columns_max 0 ms }
+abbrev pub settled : Walk (List ℕ) → Option (List ℕ)
+settled none = None
+settled (some ms) = Some (vec columns_max 0 ms)
 
 -- nets with 0 past the count
 abbrev pub nets_from : List ℕ → Nets

@@ -1,14 +1,25 @@
 // What the matrix needs of rows.
-ghost use Rattle.std.specs.Prelude.{replicate, take, [], ◌++◌, ◌∷◌, ◌≡◌, ◌+◌, ◌<◌, ◌≤◌};
-ghost use Rattle.lists.specs.Lists.{all, kept, same};
+// Where an array of 16 slots is made of a slice, at most 16 items are asked for: a slice's length is no part of its type.
+ghost use Rattle.std.specs.Prelude.{length, replicate, take, [], ◌++◌, ◌∷◌, ◌≡◌, ◌+◌, ◌<◌, ◌≤◌};
+ghost use Rattle.lists.specs.Lists.{all, kept};
 ghost use Rattle.lists.specs.Vec.{vec};
-ghost use Rattle.rows.specs.Rows.{nets_from, places, row_from, settled};
-ghost use Rattle.rules.specs.Bounds.{columns_max, rules_max};
+ghost use Rattle.rows.specs.Rows.{places, row_from, settled, view};
+ghost use Rattle.rules.specs.Bounds.{columns_max};
 ghost use Rattle.rules.specs.Codes.{net_code};
 ghost use Rattle.rules.specs.Matrix.{all_x};
+ghost use Rattle.rules.specs.Meaning.{fits};
 ghost use Rattle.rules.specs.Steps.{drops, place, takes, walk};
 ghost use Rattle.rules.specs.Trits.{is_trit};
 ghost use Rattle.sets.specs.Sets.{list_of, rules_from};
+
+impl crate::Row {
+    // The masks in use: a length may say more than there are slots.
+    pub fn masks_in_use(&self) -> &[u8]
+        ensures { result.now ≡ (view self.now).pattern }
+    {
+        &self.pattern[..self.len.min(rules::COLUMNS_MAX)]
+    }
+}
 
 // The row of a slot past the count.
 pub fn blank() -> crate::Row
@@ -21,89 +32,56 @@ pub fn blank() -> crate::Row
     }
 }
 
-pub fn undef(pattern: [u8; rules::COLUMNS_MAX], n: usize) -> bool
-    requires { n ≤ columns_max }
-    ensures { result ≡ all_x (take n pattern) }
+pub fn undef(pattern: &[u8]) -> bool
+    ensures { result ≡ all_x pattern.now }
 {
-    for i in 0..n {
-        if pattern[i] != rules::UNDEF {
-            return false;
-        }
-    }
-    true
+    pattern.iter().all(|mask| *mask == rules::UNDEF)
 }
 
-pub fn alike(a: [u8; rules::COLUMNS_MAX], b: [u8; rules::COLUMNS_MAX], n: usize) -> bool
-    requires { n ≤ columns_max }
-    ensures { result ≡ same (take n a) (take n b) }
+fn is_trit(mask: u8) -> bool
+    ensures { result ≡ is_trit mask }
 {
-    for i in 0..n {
-        if a[i] != b[i] {
-            return false;
-        }
-    }
-    true
+    rules::Trit::try_from(mask).is_ok()
 }
 
-// A length may be too large: the slots that exist are looked at.
-pub fn trits(pattern: [u8; rules::COLUMNS_MAX], len: usize) -> bool
-    ensures { result ≡ all is_trit (take len pattern) }
+pub fn trits(pattern: &[u8]) -> bool
+    ensures { result ≡ all is_trit pattern.now }
 {
-    for i in 0..rules::COLUMNS_MAX {
-        if i >= len {
-            return true;
-        }
-        if pattern[i] >= 3 {
-            return false;
-        }
-    }
-    true
+    pattern.iter().all(|mask| is_trit(*mask))
 }
 
-fn first_of(value: [u16; rules::COLUMNS_MAX], n: usize, x: u16) -> usize
-    requires { n ≤ columns_max }
-    ensures { result ≡ place x (take n value) }
+// A net that stands in no column would get the number of columns.
+fn first_of(nets: &[u16], x: u16) -> usize
+    ensures { result ≡ place x nets.now }
 {
-    for i in 0..n {
-        if value[i] == x {
-            return i;
-        }
-    }
-    n
+    nets.iter().position(|net| *net == x).unwrap_or(nets.len())
 }
 
 // Once a matrix, so that no row looks a net up.
-pub fn firsts(value: [u16; rules::COLUMNS_MAX], n: usize) -> [usize; rules::COLUMNS_MAX]
-    requires { n ≤ columns_max }
-    ensures { result ≡ vec columns_max 0 (places (take n value)) }
+pub fn firsts(nets: &[u16]) -> [usize; rules::COLUMNS_MAX]
+    requires { length nets.now ≤ columns_max }
+    ensures { result ≡ vec columns_max 0 (places nets.now) }
 {
-    let mut made = [0usize; rules::COLUMNS_MAX];
-    for i in 0..n {
-        let x = value[i];
-        let f = first_of(value, n, x);
-        made[i] = f;
+    let mut made = [0; rules::COLUMNS_MAX];
+    for (i, x) in nets.iter().enumerate() {
+        made[i] = first_of(nets, *x);
     }
     made
 }
 
+fn fits(mask: u8, value: u8) -> bool
+    ensures { result ≡ fits mask value }
+{
+    mask == rules::UNDEF || mask == value
+}
+
+// Masks stay numbers: they come out of an array and go back as they are.
 fn drops(net: rules::Net, first: u8, mask: u8) -> bool
     ensures { result ≡ drops (net_code net) first mask }
 {
-    if mask == rules::UNDEF {
-        return false;
-    }
     match net {
-        rules::Net::Const(t) => match t {
-            rules::Trit::Zero => mask != 0,
-            rules::Trit::One => mask != 1,
-            rules::Trit::Undef => true,
-        },
-        rules::Net::Cell(_) => {
-            if first == rules::UNDEF {
-                return false;
-            }
-            mask != first
-        }
+        rules::Net::Const(t) => !fits(mask, u8::from(t)),
+        rules::Net::Cell(_) => first != rules::UNDEF && !fits(mask, first),
     }
 }
 
@@ -111,171 +89,85 @@ fn takes(net: rules::Net, first: u8, mask: u8) -> u8
     ensures { result ≡ takes (net_code net) first mask }
 {
     match net {
-        rules::Net::Const(_) => first,
-        rules::Net::Cell(_) => {
-            if first == rules::UNDEF {
-                return mask;
-            }
-            first
-        }
+        rules::Net::Cell(_) if first == rules::UNDEF => mask,
+        _ => first,
     }
 }
 
 // Columns in order: a net's first column holds what the row asks of it so far.
 pub fn settle(
-    value: [u16; rules::COLUMNS_MAX],
+    nets: &[u16],
     firsts: [usize; rules::COLUMNS_MAX],
-    n: usize,
-    pattern: [u8; rules::COLUMNS_MAX],
-) -> crate::Settled
-    requires { (n ≤ columns_max) × (firsts ≡ vec columns_max 0 (places (take n value))) × (pattern ≡ vec columns_max 0 (take n pattern)) }
-    ensures { result ≡ settled (walk (take n value) n 0 (take n pattern)) }
+    mut pattern: [u8; rules::COLUMNS_MAX],
+) -> Option<[u8; rules::COLUMNS_MAX]>
+    requires narrow { length nets.now ≤ columns_max }
+    requires looked_up { firsts ≡ vec columns_max 0 (places nets.now) }
+    requires tidy { pattern ≡ vec columns_max 0 (take (length nets.now) pattern) }
+    ensures { result ≡ settled (walk nets.now (length nets.now) 0 (take (length nets.now) pattern)) }
 {
-    let mut p = pattern;
-    let mut j = 0;
-    while j < n {
-        let net = trits::inner::net(value[j]);
+    for (j, x) in nets.iter().enumerate() {
+        let net = rules::Net::from(*x);
         let f = firsts[j];
-        let first = p[f];
-        let mask = p[j];
+        let first = pattern[f];
+        let mask = pattern[j];
         if drops(net, first, mask) {
-            return crate::Settled {
-                gone: true,
-                pattern: [0; rules::COLUMNS_MAX],
-            };
+            return None;
         }
-        p[f] = takes(net, first, mask);
-        j += 1;
+        pattern[f] = takes(net, first, mask);
     }
-    crate::Settled {
-        gone: false,
-        pattern: p,
-    }
+    Some(pattern)
 }
 
-pub fn strip(
-    gone: [bool; rules::COLUMNS_MAX],
-    n: usize,
-    pattern: [u8; rules::COLUMNS_MAX],
-) -> [u8; rules::COLUMNS_MAX]
-    requires { n ≤ columns_max }
-    ensures { result ≡ vec columns_max 0 (kept (take n gone) (take n pattern)) }
+// The items that are not gone, and the filler in the slots after them.
+pub fn strip<T: Copy, const N: usize>(filler: T, gone: &[bool], items: &[T]) -> [T; N]
+    requires { length items.now ≤ N }
+    ensures { result ≡ vec N filler (kept gone.now items.now) }
 {
-    let mut made = [0u8; rules::COLUMNS_MAX];
+    let mut made = [filler; N];
     let mut k = 0;
-    let mut i = 0;
-    while i < n {
-        let at = i;
-        i += 1;
-        if !gone[at] {
-            made[k] = pattern[at];
+    for (goes, item) in gone.iter().zip(items) {
+        if !*goes {
+            made[k] = *item;
             k += 1;
         }
     }
     made
 }
 
-pub fn strip_nets(
-    gone: [bool; rules::COLUMNS_MAX],
-    n: usize,
-    value: [u16; rules::COLUMNS_MAX],
-) -> crate::Nets
-    requires { n ≤ columns_max }
-    ensures { result ≡ nets_from (kept (take n gone) (take n value)) }
+// The items, and the filler in the slots after them.
+pub fn tidy<T: Copy, const N: usize>(filler: T, items: &[T]) -> [T; N]
+    requires { length items.now ≤ N }
+    ensures { result ≡ vec N filler items.now }
 {
-    let mut made = [0u16; rules::COLUMNS_MAX];
-    let mut k = 0;
-    let mut i = 0;
-    while i < n {
-        let at = i;
-        i += 1;
-        if !gone[at] {
-            made[k] = value[at];
-            k += 1;
-        }
-    }
-    crate::Nets {
-        value: made,
-        columns: k,
-    }
+    joined(filler, items, &[])
 }
 
-// The slots past n are 0 in what a call makes.
-pub fn tidy(pattern: [u8; rules::COLUMNS_MAX], n: usize) -> [u8; rules::COLUMNS_MAX]
-    requires { n ≤ columns_max }
-    ensures { result ≡ vec columns_max 0 (take n pattern) }
+pub fn joined<T: Copy, const N: usize>(filler: T, a: &[T], b: &[T]) -> [T; N]
+    requires { length a.now + length b.now ≤ N }
+    ensures { result ≡ vec N filler (a.now ++ b.now) }
 {
-    let mut made = [0u8; rules::COLUMNS_MAX];
-    for i in 0..n {
-        made[i] = pattern[i];
-    }
-    made
-}
-
-pub fn tidy_nets(value: [u16; rules::COLUMNS_MAX], n: usize) -> [u16; rules::COLUMNS_MAX]
-    requires { n ≤ columns_max }
-    ensures { result ≡ vec columns_max 0 (take n value) }
-{
-    let mut made = [0u16; rules::COLUMNS_MAX];
-    for i in 0..n {
-        made[i] = value[i];
-    }
+    let mut made = [filler; N];
+    let slots = &mut made[..];
+    slots[..a.len()].copy_from_slice(a);
+    slots[a.len()..a.len() + b.len()].copy_from_slice(b);
     made
 }
 
 pub fn tidy_rules(r: sets::Rules) -> sets::Rules
-    requires { r.count ≤ rules_max }
     ensures { result ≡ rules_from (list_of r) }
 {
-    let n = r.count;
-    let mut made = [0u16; rules::RULES_MAX];
-    for i in 0..n {
-        made[i] = r.items[i];
-    }
+    let rules = r.slice();
     sets::Rules {
-        items: made,
-        count: n,
+        items: tidy(0, rules),
+        count: rules.len(),
     }
 }
 
-pub fn joined(
-    a: [u8; rules::COLUMNS_MAX],
-    n: usize,
-    b: [u8; rules::COLUMNS_MAX],
-    m: usize,
-) -> [u8; rules::COLUMNS_MAX]
-    requires { n + m ≤ columns_max }
-    ensures { result ≡ vec columns_max 0 (take n a ++ take m b) }
+pub fn alone(a: &[u8], w: usize) -> [u8; rules::COLUMNS_MAX]
+    requires { length a.now + w ≤ columns_max }
+    ensures { result ≡ vec columns_max 0 (a.now ++ replicate w 2) }
 {
-    let mut made = tidy(a, n);
-    for i in 0..m {
-        made[n + i] = b[i];
-    }
-    made
-}
-
-pub fn joined_nets(
-    a: [u16; rules::COLUMNS_MAX],
-    n: usize,
-    b: [u16; rules::COLUMNS_MAX],
-    m: usize,
-) -> [u16; rules::COLUMNS_MAX]
-    requires { n + m ≤ columns_max }
-    ensures { result ≡ vec columns_max 0 (take n a ++ take m b) }
-{
-    let mut made = tidy_nets(a, n);
-    for i in 0..m {
-        made[n + i] = b[i];
-    }
-    made
-}
-
-pub fn alone(a: [u8; rules::COLUMNS_MAX], n: usize, w: usize) -> [u8; rules::COLUMNS_MAX]
-    requires { n + w ≤ columns_max }
-    ensures { result ≡ vec columns_max 0 (take n a ++ replicate w 2) }
-{
-    let xs = [2u8; rules::COLUMNS_MAX];
-    joined(a, n, xs, w)
+    joined(0, a, &[rules::UNDEF; rules::COLUMNS_MAX][..w])
 }
 
 // The 0 of the enable's own column is the first of the slots past the n.
@@ -283,6 +175,5 @@ pub fn off(n: usize) -> [u8; rules::COLUMNS_MAX]
     requires { n < columns_max }
     ensures { result ≡ vec columns_max 0 (replicate n 2 ++ (0 ∷ [])) }
 {
-    let none = [0u8; rules::COLUMNS_MAX];
-    alone(none, 0, n)
+    alone(&[], n)
 }

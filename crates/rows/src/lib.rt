@@ -3,21 +3,14 @@
 #![tactic(auto)]
 
 #[repr(C)]
-#[derive(Clone, Copy)]
+#[derive(Clone, Copy, PartialEq, Eq)]
 pub struct Row {
     pub pattern: [u8; rules::COLUMNS_MAX],
     pub len: usize,
     pub rules: sets::Rules,
 }
 
-// A row after its columns were gone through: dropped, or its masks moved.
-#[derive(Clone, Copy)]
-pub struct Settled {
-    pub gone: bool,
-    pub pattern: [u8; rules::COLUMNS_MAX],
-}
-
-// The nets of the columns that stay.
+// The nets of a line or of a matrix.
 #[derive(Clone, Copy)]
 pub struct Nets {
     pub value: [u16; rules::COLUMNS_MAX],

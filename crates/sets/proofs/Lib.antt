@@ -1,3 +1,4 @@
+pub mod Ascends
 pub mod Inserts
 pub mod Laws
 pub mod Unions

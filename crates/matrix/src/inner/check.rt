@@ -1,254 +1,109 @@
 // What is wrong with a matrix handed in: each condition by itself, total at any counts, and the number that is given.
 ghost use Rattle.std.specs.Prelude.{length, take, [], ◌∷◌, ◌≡◌, ◌≤◌};
 ghost use Rattle.lists.specs.Lists.{all};
-ghost use Rattle.matrix.specs.Faults.{faults_of, few, formed, named, shaped};
+ghost use Rattle.matrix.specs.Faults.{either, faults_of, formed, table};
 ghost use Rattle.matrix.specs.Mat.{given};
 ghost use Rattle.rules.specs.Bounds.{columns_max, rows_max};
-ghost use Rattle.rules.specs.Given.{bad_columns, bad_form, bad_net, bad_rows, bad_rules, bad_shape, matrix_table};
-ghost use Rattle.rules.specs.Nets.{is_name, is_net};
+ghost use Rattle.rules.specs.Given.{matrix_table};
 ghost use Rattle.rules.specs.Refusals.{all_low};
-ghost use Rattle.rules.specs.Refuse.{COLUMNS, FORM, NET, ROWS, RULES, SHAPE, refusal};
-ghost use Rattle.rules.specs.Trits.{is_trit};
+ghost use Rattle.rules.specs.Refuse.{refusal};
+ghost use Rattle.rules.specs.Refused.{number_or_0};
 
 use crate::inner::codes;
+use crate::{Faults, Matrix};
+use rules::Refusal;
 
-// 12 is tested first; then the lowest that applies.
-pub fn number(form: bool, columns: bool, rows: bool, shape: bool, net: bool, rules: bool) -> u8
-    ensures { result ≡ refusal ((FORM, form) ∷ (COLUMNS, columns) ∷ (ROWS, rows) ∷ (SHAPE, shape) ∷ (NET, net) ∷ (RULES, rules) ∷ []) }
-{
-    if form {
-        return rules::FORM;
-    }
-    if columns {
-        return rules::COLUMNS;
-    }
-    if rows {
-        return rules::ROWS;
-    }
-    if shape {
-        return rules::SHAPE;
-    }
-    if net {
-        return rules::NET;
-    }
-    if rules {
-        return rules::RULES;
-    }
-    0
-}
-
-// How many slots are in use: a count may say more than there are.
-pub fn columns_used(m: crate::Matrix) -> usize
-    ensures { (result ≤ columns_max) × (result ≡ length (take m.columns m.value)) }
-{
-    if m.columns < rules::COLUMNS_MAX {
-        m.columns
-    } else {
-        rules::COLUMNS_MAX
-    }
-}
-
-pub fn rows_used(m: crate::Matrix) -> usize
-    ensures { (result ≤ rows_max) × (result ≡ length (take m.count m.rows)) }
-{
-    if m.count < rules::ROWS_MAX {
-        m.count
-    } else {
-        rules::ROWS_MAX
-    }
-}
-
-// Of an array the columns in use, of a slice all.
-pub fn nets(items: &[u16], n: usize) -> bool
-    requires { n ≤ length items.now }
-    ensures { result ≡ all is_net (take n items.now) }
-{
-    let mut i = 0;
-    while i < n {
-        if !sets::inner::is_net(items[i]) {
-            return false;
+impl Faults {
+    pub fn or(self, other: Faults) -> Faults
+        ensures { result ≡ either self other }
+    {
+        Faults {
+            form: self.form | other.form,
+            columns: self.columns | other.columns,
+            rows: self.rows | other.rows,
+            shape: self.shape | other.shape,
+            net: self.net | other.net,
+            rules: self.rules | other.rules,
         }
-        i += 1;
     }
-    true
-}
 
-pub fn low(items: &[u16], n: usize) -> bool
-    requires { n ≤ length items.now }
-    ensures { result ≡ all_low (take n items.now) }
-{
-    let mut i = 0;
-    while i < n {
-        if codes::over(codes::wide(items[i])) {
-            return false;
+    // 12 is tested first; then the lowest that applies.
+    pub fn first(self) -> Result<(), Refusal>
+        ensures { number_or_0 result ≡ refusal (table self) }
+    {
+        if self.form {
+            Err(Refusal::Form)
+        } else if self.columns {
+            Err(Refusal::Columns)
+        } else if self.rows {
+            Err(Refusal::Rows)
+        } else if self.shape {
+            Err(Refusal::Shape)
+        } else if self.net {
+            Err(Refusal::Net)
+        } else if self.rules {
+            Err(Refusal::Rules)
+        } else {
+            Ok(())
         }
-        i += 1;
     }
-    true
 }
 
-pub fn names(items: &[u16]) -> bool
-    ensures { result ≡ all is_name items.now }
-{
-    let mut i = 0;
-    while i < items.len() {
-        if !sets::inner::is_name(items[i]) {
-            return false;
-        }
-        i += 1;
+impl Matrix {
+    // The columns and the rows in use: a count may say more than there are slots.
+    pub fn nets_in_use(&self) -> &[u16]
+        ensures few { length result.now ≤ columns_max }
+        ensures items { result.now ≡ take self.now.columns self.now.value }
+    {
+        let n = self.columns.min(rules::COLUMNS_MAX);
+        &self.value[..n]
     }
-    true
-}
 
-pub fn trits(pattern: &[u8]) -> bool
-    ensures { result ≡ all is_trit pattern.now }
-{
-    let mut i = 0;
-    while i < pattern.len() {
-        if pattern[i] >= 3 {
-            return false;
-        }
-        i += 1;
+    pub fn rows_in_use(&self) -> &[rows::Row]
+        ensures few { length result.now ≤ rows_max }
+        ensures items { result.now ≡ take self.now.count self.now.rows }
+    {
+        let n = self.count.min(rules::ROWS_MAX);
+        &self.rows[..n]
     }
-    true
 }
 
-fn row_formed(r: rows::Row) -> bool
-    ensures { result ≡ formed r }
+pub fn low(items: &[u16]) -> bool
+    ensures { result ≡ all_low items.now }
 {
-    let p = r.pattern;
-    if !rows::inner::trits(p, r.len) {
-        return false;
-    }
-    let s = r.rules;
-    if !sets::inner::nets(s) {
-        return false;
-    }
-    sets::inner::ascending(s)
+    items.iter().all(|x| !codes::over(u32::from(*x)))
 }
 
-fn rows_formed(m: crate::Matrix) -> bool
-    ensures { result ≡ all formed (take m.count m.rows) }
+fn row_formed(r: &rows::Row) -> bool
+    ensures { result ≡ formed r.now }
 {
-    let n = rows_used(m);
-    let mut i = 0;
-    while i < n {
-        let r = m.rows[i];
-        if !row_formed(r) {
-            return false;
-        }
-        i += 1;
-    }
-    true
-}
-
-fn rows_shaped(m: crate::Matrix) -> bool
-    ensures { result ≡ all (shaped m.columns) (take m.count m.rows) }
-{
-    let n = rows_used(m);
-    let mut i = 0;
-    while i < n {
-        let r = m.rows[i];
-        if r.len != m.columns {
-            return false;
-        }
-        i += 1;
-    }
-    true
-}
-
-fn rows_named(m: crate::Matrix) -> bool
-    ensures { result ≡ all named (take m.count m.rows) }
-{
-    let n = rows_used(m);
-    let mut i = 0;
-    while i < n {
-        let r = m.rows[i];
-        let s = r.rules;
-        if !sets::inner::named(s) {
-            return false;
-        }
-        i += 1;
-    }
-    true
-}
-
-fn rows_few(m: crate::Matrix) -> bool
-    ensures { result ≡ all few (take m.count m.rows) }
-{
-    let n = rows_used(m);
-    let mut i = 0;
-    while i < n {
-        let r = m.rows[i];
-        if r.rules.count > rules::RULES_MAX {
-            return false;
-        }
-        i += 1;
-    }
-    true
-}
-
-fn bad_form(m: crate::Matrix) -> bool
-    ensures { result ≡ bad_form (given m) }
-{
-    let n = columns_used(m);
-    if !nets(&m.value, n) {
-        return true;
-    }
-    !rows_formed(m)
-}
-
-fn bad_columns(m: crate::Matrix) -> bool
-    ensures { result ≡ bad_columns (given m) }
-{
-    m.columns > rules::COLUMNS_MAX
-}
-
-fn bad_rows(m: crate::Matrix) -> bool
-    ensures { result ≡ bad_rows (given m) }
-{
-    m.count > rules::ROWS_MAX
-}
-
-fn bad_shape(m: crate::Matrix) -> bool
-    ensures { result ≡ bad_shape (given m) }
-{
-    !rows_shaped(m)
-}
-
-fn bad_net(m: crate::Matrix) -> bool
-    ensures { result ≡ bad_net (given m) }
-{
-    let n = columns_used(m);
-    if !low(&m.value, n) {
-        return true;
-    }
-    !rows_named(m)
-}
-
-pub fn bad_rules(m: crate::Matrix) -> bool
-    ensures { result ≡ bad_rules (given m) }
-{
-    !rows_few(m)
+    rows::inner::trits(r.masks_in_use())
+        && sets::inner::nets(r.rules.slice())
+        && r.rules.ascending()
 }
 
 // All six at once, for the calls that add conditions of their own.
-pub fn faults(m: crate::Matrix) -> crate::Faults
-    ensures { result ≡ faults_of (given m) }
+pub fn faults(m: &Matrix) -> Faults
+    ensures { result ≡ faults_of (given m.now) }
 {
-    crate::Faults {
-        form: bad_form(m),
-        columns: bad_columns(m),
-        rows: bad_rows(m),
-        shape: bad_shape(m),
-        net: bad_net(m),
-        rules: bad_rules(m),
+    let nets = m.nets_in_use();
+    let rows = m.rows_in_use();
+    let formed = rows.iter().all(row_formed);
+    let shaped = rows.iter().all(|r| r.len == m.columns);
+    let named = rows.iter().all(|r| r.rules.named());
+    let few = rows.iter().all(|r| r.rules.count <= rules::RULES_MAX);
+    Faults {
+        form: !(sets::inner::nets(nets) & formed),
+        columns: m.columns > rules::COLUMNS_MAX,
+        rows: m.count > rules::ROWS_MAX,
+        shape: !shaped,
+        net: !(low(nets) & named),
+        rules: !few,
     }
 }
 
-pub fn check(m: crate::Matrix) -> u8
-    ensures { result ≡ refusal (matrix_table (given m)) }
+pub fn check(m: &Matrix) -> Result<(), Refusal>
+    ensures { number_or_0 result ≡ refusal (matrix_table (given m.now)) }
 {
-    let f = faults(m);
-    number(f.form, f.columns, f.rows, f.shape, f.net, f.rules)
+    faults(m).first()
 }

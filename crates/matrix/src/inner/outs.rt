@@ -1,62 +1,45 @@
 // All rules of all rows as one set.
-ghost use Rattle.std.specs.Prelude.{take, [], ◌≡◌, ◌+◌, ◌≤◌};
+ghost use Rattle.std.specs.Prelude.{[], ◌≡◌};
 ghost use Rattle.lists.specs.Vec.{vec};
 ghost use Rattle.matrix.specs.Faults.{Fits};
 ghost use Rattle.matrix.specs.Mat.{view};
 ghost use Rattle.matrix.specs.Outs.{outputs_from};
-ghost use Rattle.rules.specs.Bounds.{outputs_max, rules_max};
-ghost use Rattle.rules.specs.Matrix.{outputs, union};
+ghost use Rattle.rules.specs.Bounds.{outputs_max};
+ghost use Rattle.rules.specs.Matrix.{outputs};
 ghost use Rattle.rules.specs.Refuse.{done, refused};
-ghost use Rattle.sets.specs.Sets.{list_of};
+ghost use Rattle.rules.specs.Refused.{number_of};
+
+use crate::{Matrix, Outputs};
+use rules::Refusal;
 
 // Alone, since an array of so many zeros would stand in every goal of its function.
 fn zeros() -> [u16; rules::ROWS_MAX * rules::RULES_MAX]
     ensures { result ≡ vec outputs_max 0 [] }
 {
-    [0u16; rules::ROWS_MAX * rules::RULES_MAX]
+    [0; rules::ROWS_MAX * rules::RULES_MAX]
 }
 
-pub fn none(no: u8) -> crate::Outputs
-    ensures { result ≡ outputs_from (refused no) }
+pub fn refused(why: Refusal) -> Outputs
+    ensures { result ≡ outputs_from (refused (number_of why)) }
 {
-    crate::Outputs {
-        no: no,
+    Outputs {
+        no: u8::from(why),
         nets: zeros(),
         count: 0,
     }
 }
 
-// The rules of a row, from the last to the first.
-fn gather(o: crate::Outputs, s: sets::Rules) -> crate::Outputs
-    requires { (o ≡ outputs_from (done (take o.count o.nets))) × (o.count + rules_max ≤ outputs_max) }
-    ensures { result ≡ outputs_from (done (union (list_of s) (take o.count o.nets))) }
+// From the last rule of the last row to the first of the first.
+pub fn outputs(m: &Matrix) -> Outputs
+    requires { Fits m.now }
+    ensures { result ≡ outputs_from (done (outputs (view m.now))) }
 {
-    let mut nets = o.nets;
-    let mut count = o.count;
-    let mut i = sets::inner::used(s);
-    while i > 0 {
-        i -= 1;
-        let x = s.items[i];
-        count = sets::inner::insert(&mut nets, count, x);
+    let mut nets = zeros();
+    let mut count = 0;
+    for row in m.rows_in_use().iter().rev() {
+        for rule in row.rules.slice().iter().rev() {
+            count = sets::inner::insert(&mut nets, count, *rule);
+        }
     }
-    crate::Outputs {
-        no: 0,
-        nets: nets,
-        count: count,
-    }
-}
-
-pub fn outputs(m: crate::Matrix) -> crate::Outputs
-    requires { Fits m }
-    ensures { result ≡ outputs_from (done (outputs (view m))) }
-{
-    let mut made = none(0);
-    let mut i = m.count;
-    while i > 0 {
-        i -= 1;
-        let r = m.rows[i];
-        let s = r.rules;
-        made = gather(made, s);
-    }
-    made
+    Outputs { no: 0, nets, count }
 }

@@ -1,45 +1,34 @@
-// A matrix within the bounds as a call hands it on: 0 past every count, whatever stood there.
-ghost use Rattle.std.specs.Prelude.{◌≡◌, ◌≤◌};
-ghost use Rattle.matrix.specs.Faults.{Fits};
+// A matrix as a call hands it on: 0 past every count, whatever stood there, and no count past the slots.
+ghost use Rattle.std.specs.Prelude.{◌≡◌};
 ghost use Rattle.matrix.specs.Mat.{matrix_from, view};
 ghost use Rattle.rows.specs.Rows.{row_from, view as viewed};
-ghost use Rattle.rules.specs.Bounds.{columns_max, rules_max};
 
-use crate::inner::blank;
+use crate::Matrix;
 
-fn tidy_row(r: rows::Row) -> rows::Row
-    requires { (r.len ≤ columns_max) × (r.rules.count ≤ rules_max) }
-    ensures { result ≡ row_from (viewed r) }
+fn tidy_row(r: &rows::Row) -> rows::Row
+    ensures { result ≡ row_from (viewed r.now) }
 {
-    let p = r.pattern;
-    let n = r.len;
-    let s = r.rules;
+    let masks = r.masks_in_use();
     rows::Row {
-        pattern: rows::inner::tidy(p, n),
-        len: n,
-        rules: rows::inner::tidy_rules(s),
+        pattern: rows::inner::tidy(0, masks),
+        len: masks.len(),
+        rules: rows::inner::tidy_rules(r.rules),
     }
 }
 
-pub fn tidy(m: crate::Matrix) -> crate::Matrix
-    requires { Fits m }
+pub fn tidy(m: Matrix) -> Matrix
     ensures { result ≡ matrix_from (view m) }
 {
-    let n = m.count;
-    let empty = blank::none();
-    let mut made = empty.rows;
-    let mut i = 0;
-    while i < n {
-        let r = m.rows[i];
-        made[i] = tidy_row(r);
-        i += 1;
+    let nets = m.nets_in_use();
+    let rows = m.rows_in_use();
+    let mut made = [rows::inner::blank(); rules::ROWS_MAX];
+    for (i, row) in rows.iter().enumerate() {
+        made[i] = tidy_row(row);
     }
-    let v = m.value;
-    let k = m.columns;
-    crate::Matrix {
-        value: rows::inner::tidy_nets(v, k),
-        columns: k,
+    Matrix {
+        value: rows::inner::tidy(0, nets),
+        columns: nets.len(),
         rows: made,
-        count: n,
+        count: rows.len(),
     }
 }

@@ -1,4 +1,3 @@
-use lib.ListN.{take}
 use mathlib.Core.List.{List, ◌++◌}
 use mathlib.Core.Path.{ap, ◌∙◌}
 use native.Mathlib.Omega.{arith}
@@ -11,4 +10,4 @@ use Rattle.rows.proofs.inner.alone.Goals as goal
 pub returns : goal.returns
 returns c =
     let a = c.args in
-    c.joined.ensures ∙ ap (λ (l : List ℕ). vec columns_max 0 (take a.n a.a ++ l)) (take-replicate a.w columns_max 2 (omega arith))
+    c.joined.ensures ∙ ap (λ (l : List ℕ). vec columns_max 0 (a.a.now ++ l)) (take-replicate a.w columns_max 2 (omega arith))

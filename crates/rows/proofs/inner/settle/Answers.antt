@@ -1,53 +1,33 @@
-use borrow.Author.Rules.{rules}
-use lib.ListN.{length}
-use mathlib.Core.Path.{◌≡◌, sym, ◌∙◌}
+use mathlib.Core.Path.{sym, ◌∙◌}
 use native.Mathlib.Omega.{arith}
-use Rattle.lists.specs.Vec.{vec}
-use Rattle.rows.proofs.Walked.{First, first_is, going, going_drop, going_end, going_on}
-use Rattle.rules.specs.Bounds.{columns_max}
+use Rattle.rows.proofs.Walked.{first_is, going, going_drop, going_end, going_on}
 use Rattle.rows.proofs.inner.settle.Goals as goal
 
-pub loop-j-init : goal.loop-j-init
-loop-j-init c = (search rules, going _ _ _ c.requires.2)
-
-pub bounds-p-f : goal.bounds-p-f
-bounds-p-f c =
-    let first : First c.args.value c.args.firsts c.args.n c.loop-j.j = let a = c.args in
-    let k : length a.value ≡ columns_max = search rules in
-    first_is a.value a.firsts a.n c.loop-j.j (omega arith) k (omega arith) c.requires.1 in
-    let f = first in omega arith
+pub bounds-pattern-f : goal.bounds-pattern-f
+bounds-pattern-f c =
+    let a = c.args in
+    let f = first_is a.nets.now a.firsts c.loop-j.j c.requires.narrow (omega arith) c.requires.looked_up in
+    omega (arith, f.below, c.requires.narrow)
 
 pub returns-then-drops : goal.returns-then-drops
-unfolding vec
 returns-then-drops c =
-    let first : First c.args.value c.args.firsts c.args.n c.loop-j.j = let a = c.args in
-    let k : length a.value ≡ columns_max = search rules in
-    first_is a.value a.firsts a.n c.loop-j.j (omega arith) k (omega arith) c.requires.1 in
     let a = c.args in
-    let f = first in
     let d = sym c.drops.ensures ∙ c.if-drops.true in
-    sym (going_drop a.value a.n a.pattern c.loop-j.p c.loop-j.j _ _ (omega arith) (omega arith) c.net-net.ensures f.0 f.1 c.loop-j.invariant.1 d)
+    sym (going_drop a.nets.now a.firsts a.pattern c.loop-j.pattern c.loop-j.j _ c.requires.narrow (omega arith) c.from-net.ensures c.requires.looked_up c.loop-j.invariant d)
 
-pub bounds-p-f-in-loop-j : goal.bounds-p-f-in-loop-j
-bounds-p-f-in-loop-j c =
-    let first : First c.args.value c.args.firsts c.args.n c.loop-j.j = let a = c.args in
-    let k : length a.value ≡ columns_max = search rules in
-    first_is a.value a.firsts a.n c.loop-j.j (omega arith) k (omega arith) c.requires.1 in
-    let f = first in omega arith
+pub bounds-pattern-f-in-loop-j : goal.bounds-pattern-f-in-loop-j
+bounds-pattern-f-in-loop-j c =
+    let a = c.args in
+    let f = first_is a.nets.now a.firsts c.loop-j.j c.requires.narrow (omega arith) c.requires.looked_up in
+    omega (arith, f.below, c.requires.narrow)
 
 pub loop-j-preserved : goal.loop-j-preserved
 loop-j-preserved c =
-    let first : First c.args.value c.args.firsts c.args.n c.loop-j.j = let a = c.args in
-    let k : length a.value ≡ columns_max = search rules in
-    first_is a.value a.firsts a.n c.loop-j.j (omega arith) k (omega arith) c.requires.1 in
     let a = c.args in
-    let f = first in
-    let d = sym c.drops.ensures ∙ c.if-drops.false in (
-      omega arith,
-      going_on a.value a.n a.pattern c.loop-j.p c.loop-j.j _ _ (omega arith) (omega arith) c.net-net.ensures f.0 f.1 c.loop-j.invariant.1 _ d c.takes.ensures,
-    )
+    let d = sym c.drops.ensures ∙ c.if-drops.false in
+    going_on a.nets.now a.firsts a.pattern c.loop-j.pattern c.loop-j.j _ c.requires.narrow (omega arith) c.from-net.ensures c.requires.looked_up c.loop-j.invariant _ d c.takes.ensures
 
 pub returns : goal.returns
 returns c =
     let a = c.args in
-    sym (going_end a.value a.n a.pattern c.loop-j.p c.loop-j.j (omega arith) c.loop-j.invariant.1)
+    sym (going_end a.nets.now a.pattern c.loop-j.pattern c.loop-j.j (omega arith) c.loop-j.invariant)

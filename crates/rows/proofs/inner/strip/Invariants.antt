@@ -1,10 +1,11 @@
-use Prim.Native.Nat.{◌-◌, ◌≤◌}
+use lib.ListN.{length}
 use Rattle.lists.specs.Keep.{Kept}
-use Rattle.rules.specs.Bounds.{columns_max}
 use Rattle.rows.proofs.inner.strip.Given as goal
 
-abbrev pub invariant-loop-i : goal.invariant-loop-i
-invariant-loop-i l = (l.i ≤ l.n) × Kept columns_max 0 l.gone l.pattern l.i l.made l.k
-
-abbrev pub decreases-loop-i : goal.decreases-loop-i
-decreases-loop-i l = l.n - l.i
+abbrev pub invariant-loop-goes : goal.invariant-loop-goes
+invariant-loop-goes g l =
+    record {
+      can : (goal.iterator-loop-goes g).can_next l.goes-iterator;
+      finite : (goal.iterator-loop-goes g).is_finite l.goes-iterator;
+      kept : Kept g.row.N l.fn.filler l.gone l.items (length l.yielded) l.made l.k;
+    }

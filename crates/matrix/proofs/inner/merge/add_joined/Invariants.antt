@@ -1,7 +1,6 @@
 use lib.ListN.{take}
 use mathlib.Core.List.{◌++◌, map}
 use mathlib.Core.Path.{◌≡◌}
-use Prim.Native.Nat.{◌+◌, ◌-◌, ◌≤◌}
 use Rattle.lists.specs.Vec.{vec}
 use Rattle.matrix.proofs.StepHeld.{zero_row}
 use Rattle.matrix.specs.Mat.{view}
@@ -13,9 +12,9 @@ use Rattle.matrix.proofs.inner.merge.add_joined.Given as goal
 
 abbrev pub invariant-loop-i : goal.invariant-loop-i
 invariant-loop-i l =
-    (l.i ≤ l.child.count) × (l.k + l.child.count ≤ rows_max)
-    × (l.made.rows ≡ vec rows_max zero_row (map row_from (view l.initial.made).rows ++ take l.i (map row_from (map (joined (rows.view l.row)) (view l.child).rows))))
-    × (l.made.value ≡ l.initial.made.value) × (l.made.columns ≡ l.initial.made.columns)
-
-abbrev pub decreases-loop-i : goal.decreases-loop-i
-decreases-loop-i l = l.child.count - l.i
+    record {
+      rows : l.made.rows ≡ vec rows_max zero_row (map row_from (view l.initial.made).rows ++ take l.i (map row_from (map (joined (rows.view l.row)) (view l.fn.child).rows)));
+      value : l.made.value ≡ l.initial.made.value;
+      columns : l.made.columns ≡ l.initial.made.columns;
+      count : l.made.count ≡ l.initial.made.count;
+    }

@@ -18,8 +18,8 @@ alone-requires c =
     let a = c.args in
     (c.requires.2, other_fits a.made a.child a.row a.t c.requires.0 c.requires.1 c.requires.2 c.requires.3 c.requires.4 (sym c.holds.ensures ∙ c.if-holds.false))
 
-pub bounds-next-k : goal.bounds-next-k
-bounds-next-k c =
+pub bounds-made-made : goal.bounds-made-made
+bounds-made-made c =
     let a = c.args in
     other_room a.made a.child a.row a.t c.requires.0 c.requires.1 c.requires.2 c.requires.3 c.requires.4 (sym c.holds.ensures ∙ c.if-holds.false)
 

@@ -1,34 +1,21 @@
-use borrow.Author.Rules.{rules}
 use mathlib.Core.Bool.{not}
-use mathlib.Core.Path.{◌∙◌, ap, refl, sym}
-use native.Mathlib.Omega.{arith}
-use Rattle.lists.specs.Lists.{rest-done, rest_more, rest_stop}
-use Rattle.matrix.proofs.Calls.{view-rows-length}
-use Rattle.matrix.proofs.MergeCount.{few_with, with-few, with_many}
-use Rattle.matrix.proofs.StepHeld.{none_row}
-use Rattle.matrix.specs.Mat.{view}
+use mathlib.Core.List.{List, map}
+use mathlib.Core.Path.{◌∙◌, ap, sym}
+use Rattle.lists.specs.Lists.{all}
+use Rattle.matrix.proofs.Checks.{rows_viewed}
+use Rattle.matrix.proofs.MergeCount.{any_many, few_with}
+use Rattle.rows.specs.declared.Row.{Row}
+use Rattle.rows.specs.Rows as rows
+use Rattle.rules.specs.Matrix.{Row as RowOf}
 use Rattle.sets.specs.Sets.{list_of}
+use Rattle.std.proofs.Common.{rules, tests}
+use Rattle.std.proofs.lemmas.Iterator.{YieldsList-from_slice}
+use Rattle.std.proofs.lemmas.Iterator.Search.{any_from_yields_List}
 use Rattle.matrix.proofs.inner.merge.over.Goals as goal
-
-pub loop-i-init : goal.loop-i-init
-loop-i-init c = (search rules, c.rows_used-n.ensures.0, c.rows_used-n.ensures.1 ∙ sym (view-rows-length c.args.child), refl)
-
-pub returns-then-w-gt-RULES_MAX : goal.returns-then-w-gt-RULES_MAX
-returns-then-w-gt-RULES_MAX c =
-    let a = c.args in
-    let v = c.loop-i.invariant in
-    let h = with_many (list_of a.named) a.child c.loop-i.i _ (omega arith) c.united-w.ensures c.if-w-gt-RULES_MAX.true in
-    sym (ap not (sym v.3 ∙ rest_stop (few_with (list_of a.named)) (view a.child).rows none_row c.loop-i.i (omega arith) h))
-
-pub loop-i-preserved : goal.loop-i-preserved
-loop-i-preserved c =
-    let a = c.args in
-    let v = c.loop-i.invariant in
-    let h = with-few (list_of a.named) a.child c.loop-i.i _ (omega arith) c.united-w.ensures (omega arith) in
-    (omega arith, v.1, v.2, sym (rest_more (few_with (list_of a.named)) (view a.child).rows none_row c.loop-i.i (omega arith) h) ∙ v.3)
 
 pub returns : goal.returns
 returns c =
-    let a = c.args in
-    let v = c.loop-i.invariant in
-    sym (ap not (sym v.3 ∙ rest-done (few_with (list_of a.named)) (view a.child).rows none_row c.loop-i.i (omega arith)))
+    let named = list_of c.args.named in
+    let l = c.rows_in_use.result.now in
+    any_from_yields_List (λ (r : Row). not (few_with named (rows.view r))) _ _ _ c.any.ensures.ran (YieldsList-from_slice l cc) (λ x b q k. search (rules, tests))
+    ∙ any_many named l ∙ ap (λ (rs : List RowOf). not (all (few_with named) rs)) (ap (map rows.view) c.rows_in_use.ensures.items ∙ sym (rows_viewed c.args.child.now))

@@ -12,11 +12,11 @@ use Rattle.matrix.proofs.inner.merge.row_over.Goals as goal
 pub returns-then-holds : goal.returns-then-holds
 returns-then-holds c =
     let a = c.args in
-    c.over.ensures ∙ over-named a.t (view a.child) (rows.view a.row) (sym c.holds.ensures ∙ c.if-holds.true)
+    c.over.ensures ∙ over-named a.t (view a.child.now) (rows.view a.row) (sym c.holds.ensures ∙ c.if-holds.true)
 
-pub returns : goal.returns
-returns c =
+pub returns-else-holds : goal.returns-else-holds
+returns-else-holds c =
     let a = c.args in
     let k : length a.row.rules.items ≡ rules_max = search rules in
     let l = length-take_most a.row.rules.count a.row.rules.items in
-    over_other a.t (view a.child) (rows.view a.row) (sym c.holds.ensures ∙ c.if-holds.false) (omega (arith, l.1))
+    c.if-holds.false ∙ over_other a.t (view a.child.now) (rows.view a.row) (sym c.holds.ensures ∙ c.if-holds.false) (omega (arith, l.1))

@@ -1,32 +1,26 @@
-use borrow.Author.Rules.{rules}
-use lib.ListN.{get_or, length, take}
-use lib.Seq.{get_or-take, length-take-le}
 use mathlib.Core.Bool.{◌||◌, false, not}
-use mathlib.Core.Path.{◌∙◌, ◌≡◌, ap, refl, sym}
+use mathlib.Core.Path.{◌∙◌, ◌≡◌, refl}
 use native.Mathlib.Omega.{arith}
+use lib.ListN.{get_or}
 use Prim.Native.Nat.{ℕ}
 use Rattle.lists.specs.Vec.{vec}
 use Rattle.matrix.proofs.NormalFlags.{flags_end, flags_turn}
 use Rattle.rules.specs.Bounds.{columns_max}
 use Rattle.rules.specs.Trits.{is_x}
 use Rattle.matrix.proofs.inner.normal.mark.Goals as goal
+use Rattle.matrix.proofs.inner.normal.mark.Goals.{then-used-j, else-used-j}
 
-pub loop-i-init : goal.loop-i-init
+pub loop-j-init : goal.loop-j-init
 unfolding vec
-loop-i-init c = (search rules, refl)
+loop-j-init c = refl
 
-pub loop-i-preserved : goal.loop-i-preserved
-loop-i-preserved c =
+pub loop-j-preserved : goal.loop-j-preserved
+loop-j-preserved c =
     let a = c.args in
-    let v = c.loop-i.invariant in
-    let k : length a.pattern ≡ columns_max = search rules in
-    let l : length (take a.n a.pattern) ≡ a.n = length-take-le a.n a.pattern (omega arith) in
-    let e = c.marks_at-g.ensures ∙ ap (λ (m : ℕ). get_or a.used c.loop-i.i false || not (is_x m)) (sym (get_or-take a.n a.pattern c.loop-i.i 0 (omega arith))) in
-    (omega arith, flags_turn (λ (j mask : ℕ). get_or a.used j false || not (is_x mask)) columns_max (take a.n a.pattern) _ c.loop-i.i _ (omega arith) (omega arith) v.1 e)
+    let j = c.loop-j.j in
+    let f : c.if-used-j.made ≡ (get_or a.used j false || not (is_x (get_or a.pattern.now j 0))) =
+    elim c.if-used-j.branch [ then-used-j w ↦ w.made-is ∙ (let e = w.if-used-j.true in rw e) | else-used-j w ↦ w.made-is ∙ (let e = w.if-used-j.false in rw e) ] in
+    flags_turn (λ (j mask : ℕ). get_or a.used j false || not (is_x mask)) columns_max a.pattern.now _ j _ (omega arith) c.requires c.loop-j.invariant f
 
 pub returns : goal.returns
-returns c =
-    let a = c.args in
-    let k : length a.pattern ≡ columns_max = search rules in
-    let l : length (take a.n a.pattern) ≡ a.n = length-take-le a.n a.pattern (omega arith) in
-    flags_end (λ (j mask : ℕ). get_or a.used j false || not (is_x mask)) columns_max (take a.n a.pattern) _ c.loop-i.i (omega arith) c.loop-i.invariant.1
+returns c = flags_end (λ (j mask : ℕ). get_or c.args.used j false || not (is_x mask)) columns_max c.args.pattern.now _ c.loop-j.j (omega arith) c.loop-j.invariant

@@ -1,9 +1,13 @@
-use Rattle.matrix.proofs.StepHeld.{clean_wide}
-use Rattle.matrix.proofs.StepLaws.{assumed}
+use mathlib.Core.List.{List, ◌++◌}
+use mathlib.Core.Path.{◌∙◌, ap}
+use lib.ListN.{drop}
+use Prim.Native.Nat.{ℕ}
+use Rattle.matrix.proofs.StepLaws.{assumed, map_front}
+use Rattle.rules.specs.Matrix.{swap}
 use Rattle.matrix.proofs.inner.step.assume.Goals as goal
 
-pub assume_nets-made-requires : goal.assume_nets-made-requires
-assume_nets-made-requires c = clean_wide c.args.m c.requires
-
 pub returns : goal.returns
-returns c = assumed c.args.m c.args.target c.args.value c.assume_nets-made.result c.requires c.assume_nets-made.ensures
+returns c =
+    let m = c.args.m in
+    assumed m c.args.target c.args.value _ c.requires
+    (ap (λ (l : List ℕ). l ++ drop m.columns m.value) c.assume_nets.ensures ∙ map_front (swap c.args.target c.args.value) m.columns m.value)

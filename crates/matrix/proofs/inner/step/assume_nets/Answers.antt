@@ -1,26 +1,21 @@
-use borrow.Author.Rules.{rules}
-use lib.ListN.{length}
-use mathlib.Core.Path.{◌∙◌, ◌≡◌, ap₂, refl}
+use lib.ListN.{get_or, length}
+use mathlib.Core.Path.{◌∙◌, ◌≡◌, ap}
 use native.Mathlib.Omega.{arith}
 use Prim.Native.Nat.{ℕ}
-use Rattle.lists.specs.Lists.{map_turn, map_to}
-use Rattle.rules.specs.Bounds.{columns_max}
+use Rattle.lists.specs.Lists.{map_to, map_turn}
+use Rattle.matrix.proofs.StepLaws.{map_all}
 use Rattle.rules.specs.Matrix.{swap}
 use Rattle.matrix.proofs.inner.step.assume_nets.Goals as goal
 
-pub loop-i-init : goal.loop-i-init
-loop-i-init c = (search rules, search rules, refl)
-
-pub loop-i-preserved : goal.loop-i-preserved
-loop-i-preserved c =
+pub loop-net-preserved : goal.loop-net-preserved
+loop-net-preserved c =
     let a = c.args in
-    let v = c.loop-i.invariant in
-    let k : length a.value ≡ columns_max = search rules in
-    (omega arith, v.1, map_turn (swap a.target c.wide-b.result) a.value _ 0 c.loop-i.i _ (omega arith) v.2 c.swap.ensures)
+    map_turn (swap a.target a.bit) a.nets.now _ 0 c.loop-net.net-index _ c.loop-net-test.true c.loop-net.invariant
+    (c.swap.ensures ∙ ap (λ (b : ℕ). swap a.target b (get_or c.loop-net.net-items c.loop-net.net-index 0)) c.from.ensures)
 
 pub returns : goal.returns
 returns c =
     let a = c.args in
-    let v = c.loop-i.invariant in
-    let e : c.loop-i.i ≡ a.n = omega (arith, v.0, c.loop-i-test.false) in
-    v.2 ∙ ap₂ (λ (b i : ℕ). map_to (swap a.target b) i a.value) c.wide-b.ensures e
+    let f = swap a.target a.bit in
+    let e : c.loop-net.net-index ≡ length a.nets.now = omega (arith, c.loop-net-test.false, c.loop-net.auto.net-index-end) in
+    c.loop-net.invariant ∙ ap (λ (i : ℕ). map_to f i a.nets.now) e ∙ map_all f a.nets.now

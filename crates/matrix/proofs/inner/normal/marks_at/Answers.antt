@@ -1,7 +1,0 @@
-use Rattle.matrix.proofs.inner.normal.marks_at.Goals as goal
-
-pub returns-then-used : goal.returns-then-used
-returns-then-used c = rw c.if-used.true
-
-pub returns : goal.returns
-returns c = rw c.if-used.false
