@@ -2,7 +2,7 @@
 use borrow.Author.Tests.{eqb-false, le-ltb, leb-true, lt-ltb, ltb-false, ltb-true}
 use lib.Dec.{eqb, ltb}
 use lib.ListN.{drop, drop_of_length-le, get_or, length, length-append, length-drop, get_or-append, set, take}
-use lib.Seq.{drop-cons, get_or-append_seam, get_or-take}
+use lib.Seq.{drop-cons, get_or-append_seam, get_or-take, take-take, take_at}
 use mathlib.Core.Bool.{Bool, cond, false, true}
 use mathlib.Core.List.{[], ◌++◌, ◌∷◌, List}
 use mathlib.Core.Path.{◌∙◌, ◌≡◌, ap, ap₂, refl, sym}
@@ -80,8 +80,19 @@ count_below rows N n i j k a w b p h l e =
     let d = length-drop i rows in
     omega arith
 
--- a row more, q its masks and p the array that holds them
-pub count_turn : (rows : List Row) (N n i : ℕ) (a p : List ℕ) → n ≤ N → 0 < i → i ≤ length rows → take n p ≡ (get_or rows (i - 1) none_row).pattern → length (take n p) ≡ n
+-- what comes last of the first elements of a list is the one at their number
+pub last_taken : {A : Type 0} (xs ns : List A) (x d : A) (rest : List A) → rest ≡ ns ++ (x ∷ []) → rest ≡ take (length rest) xs → length rest ≤ length xs
+    → (length rest ≡ length ns + 1) × ((ns ≡ take (length ns) xs) × (x ≡ get_or xs (length rest - 1) d))
+last_taken {A} xs ns x d rest e t h =
+    let l : length rest ≡ length ns + 1 = ap length e ∙ length-append ns (x ∷ []) in
+    let k : length rest - 1 ≡ length ns = omega arith in
+    let p : ns ≡ take (length ns) xs = sym (take_at ns (x ∷ []) (length ns) refl) ∙ ap (take (length ns)) (sym e ∙ t) ∙ take-take (length ns) (length rest) xs (omega arith) in
+    let q : get_or rest (length ns) d ≡ x = ap (λ (w : List A). get_or w (length ns) d) e ∙ get_or-append_seam ns x [] d in
+    let r : get_or rest (length ns) d ≡ get_or xs (length ns) d = ap (λ (w : List A). get_or w (length ns) d) t ∙ get_or-take (length rest) xs (length ns) d (omega arith) in
+    (l, (p, sym q ∙ r ∙ ap (λ (i : ℕ). get_or xs i d) (sym k)))
+
+-- a row more, p its masks
+pub count_turn : (rows : List Row) (N n i : ℕ) (a p : List ℕ) → n ≤ N → 0 < i → i ≤ length rows → p ≡ (get_or rows (i - 1) none_row).pattern → length p ≡ n
     → a ≡ vec N 0 (upto (count_x (drop i rows)) n)
     → upto (λ (j : ℕ). bit (is_x (get_or p j 0)) + get_or a j 0) n ≡ upto (count_x (drop (i - 1) rows)) n
 unfolding count_x
@@ -93,7 +104,7 @@ count_turn rows N n i a p w z h q l e =
     (λ j b.
     let c : get_or a j 0 ≡ count_x (drop i rows) j = ap (λ (v : List ℕ). get_or v j 0) e ∙ vec-at N (count_x (drop i rows)) n j w b in
     let m : get_or p j 0 ≡ get_or (get_or rows (i - 1) none_row).pattern j 2 =
-    sym (get_or-take n p j 0 b) ∙ get_d_any (take n p) j 0 2 (omega arith) ∙ ap (λ (v : List ℕ). get_or v j 2) q in
+    get_d_any p j 0 2 (omega arith) ∙ ap (λ (v : List ℕ). get_or v j 2) q in
     ap₂ (λ (x y : ℕ). bit (is_x x) + y) m c ∙ sym (ap (λ (v : List Row). count_x v j) d))
 
 -- ---- the least count, the lowest on a tie
@@ -132,12 +143,14 @@ least-best rows cs (x ∷ ns) i b n h k l =
 
 -- ---- of a matrix
 
-pub column_is : (rows : List Row) (ns cs : List ℕ) (n N : ℕ) → n ≡ length ns → n ≤ N → cs ≡ vec N 0 (upto (count_x rows) n) → least cs n 0 0 ≡ best rows ns 0 0
+-- the counts in the columns in use
+pub counted : (rows : List Row) (a : List ℕ) (n N : ℕ) → n ≤ N → a ≡ vec N 0 (upto (count_x rows) n) → (j : ℕ) → j < n → get_or (take n a) j 0 ≡ count_x rows j
+counted rows a n N w e j b = get_or-take n a j 0 b ∙ ap (λ (v : List ℕ). get_or v j 0) e ∙ vec-at N (count_x rows) n j w b
+
+pub column_is : (rows : List Row) (ns cs : List ℕ) (n : ℕ) → n ≡ length ns → ((j : ℕ) → j < n → get_or cs j 0 ≡ count_x rows j) → least cs n 0 0 ≡ best rows ns 0 0
 unfolding least best
-column_is rows [] cs n N e w q = ap (λ (k : ℕ). least cs k 0 0) e
-column_is rows (x ∷ ns) cs n N e w q =
-    let h : (j : ℕ) → j < n → get_or cs j 0 ≡ count_x rows j = λ j b. ap (λ (v : List ℕ). get_or v j 0) q ∙ vec-at N (count_x rows) n j w b in
-    ap (λ (k : ℕ). least cs k 0 0) e ∙ least-best rows cs (x ∷ ns) 0 0 n h (omega arith) (omega arith)
+column_is rows [] cs n e h = ap (λ (k : ℕ). least cs k 0 0) e
+column_is rows (x ∷ ns) cs n e h = ap (λ (k : ℕ). least cs k 0 0) e ∙ least-best rows cs (x ∷ ns) 0 0 n h (omega arith) (omega arith)
 
 pub column_in : (m : Matrix) → done m ≡ false → column m < length m.nets
 column_in m e =

@@ -4,22 +4,21 @@ use lib.Dec.{eqb, ltb}
 use lib.ListN.{length, length-append, length-map}
 use mathlib.Core.Bool.{◌&&◌, ◌||◌, Bool, cond, false, not, true}
 use mathlib.Core.List.{[], ◌++◌, ◌∷◌, List, map}
-use mathlib.Core.Path.{◌∙◌, ◌≡◌, ap, refl, subst, sym}
+use mathlib.Core.Path.{◌∙◌, ◌≡◌, refl, subst, sym}
 use native.Mathlib.Omega.{arith}
 use Prim.Native.Nat.{◌<◌, suc, ℕ}
-use Rattle.dispatch.specs.Good.{built_read, Fine, Good, Plain}
+use Rattle.dispatch.specs.Good.{built_read, door, Fine, Good, Plain}
 use Rattle.lists.specs.Bools.{and_left, and_right, by_bool, clash, or_cases, or_left, or_no, or_right}
 use Rattle.lists.specs.Lists.{all, mem}
 use Rattle.matrix.proofs.StepSized.{sized_enable}
 use Rattle.matrix.proofs.Views.{clean_is}
-use Rattle.matrix.specs.declared.Made.{Made}
 use Rattle.matrix.specs.declared.Matrix.{Matrix}
-use Rattle.matrix.specs.Mat.{given, made_from, matrix_from, view}
+use Rattle.matrix.specs.Mat.{given, matrix_from, view}
 use Rattle.rules.proofs.Accepts.{all-mem, fine-rows, is_not, not_over}
 use Rattle.rules.proofs.Givens.{sized_by_tests}
 use Rattle.rules.proofs.Leafs.{Named, widened-named}
 use Rattle.rules.proofs.Picks.{none_applies}
-use Rattle.rules.specs.Answers.{dispatch_answer, dispatch_store, enable_answer}
+use Rattle.rules.specs.Answers.{dispatch_answer, dispatch_store}
 use Rattle.rules.specs.Bounds.{columns_max, rows_max}
 use Rattle.rules.specs.Dispatch.{catch_all, dispatch, peak_of, raw_of}
 use Rattle.rules.specs.Given.{ascends, bad_columns, bad_form, bad_net, bad_rows, bad_rules, bad_shape, formed_row, Given, Sized, Slots, too_tall, too_wide, view as view_of}
@@ -28,6 +27,8 @@ use Rattle.rules.specs.Nets.{first_mux, is_name, is_net, over}
 use Rattle.rules.specs.Refusals.{dispatch_table, enable_table}
 use Rattle.rules.specs.Refuse.{CATCH, COLUMNS, FORM, NET, NODES, refusal, ROWS, RULES, SHAPE}
 use Rattle.rules.specs.Store.{cleared, used}
+use Rattle.rules.specs.declared.refusal.Refusal.{Refusal}
+use Rattle.std.specs.Prelude.{Result}
 use Rattle.tree.specs.declared.Built.{Built}
 use Rattle.tree.specs.Grown.{made, refused, Whole}
 
@@ -48,9 +49,6 @@ eight false false false false false true k h = refl
 eight false false false false false false true true = refl
 eight false false false false false false true false = refl
 eight false false false false false false false h = refl
-
-abbrev pub door : ℕ → Bool → ℕ
-door n k = cond (eqb n 0) (cond k 0 CATCH) n
 
 door_stays : (n : ℕ) (k h : Bool) → (door n k ≡ 0 → ⊥) → cond (eqb n 0) (cond k (cond h NODES 0) CATCH) n ≡ door n k
 door_stays n k h z =
@@ -83,7 +81,7 @@ module _ (e : ℕ) (g : Given) (xs : List ℕ) where
 
   -- ---- and where a tree was built
 
-  pub built_answer : (n : ℕ) (ys : List ℕ) (r : Built) → n ≡ door (refusal (enable_table e g)) (catch_all (view_of g).rows) → n ≡ 0 → Whole (raw_of (add_enable e (view_of g))) xs ys r
+  pub built_answer : (n : ℕ) (ys : List ℕ) (r : Result Built Refusal) → n ≡ door (refusal (enable_table e g)) (catch_all (view_of g).rows) → n ≡ 0 → Whole (raw_of (add_enable e (view_of g))) xs ys r
       → (built_read r ≡ dispatch_answer e g xs) × (ys ≡ dispatch_store e g xs)
   unfolding dispatch_answer dispatch_store dispatch peak_of
   built_answer n ys r q z (made h a c) =
@@ -153,13 +151,7 @@ module _ (m : Matrix) (e : ℕ) (s : Slots (given m)) (z : refusal (enable_table
   unfolding mem
   enable_low = let none = none_applies (enable_table e (given m)) z in omega (arith, leb-false first_mux e (or_no (bad_net (given m)) (over e) (none NET refl)).1)
 
-  pub enabled_is : (r : Made) → r ≡ made_from (enable_answer e (given m)) → Good r.matrix × (view r.matrix ≡ add_enable e (view m))
-  unfolding enable_answer
-  enabled_is r q =
-      let y : r.matrix ≡ matrix_from (add_enable e (view m)) = ap (λ (x : Made). x.matrix) q ∙ rw (z) in
-      let c = clean_is r.matrix (add_enable e (view m)) sized_both y in
+  pub enabled_is : (r : Matrix) → r ≡ matrix_from (add_enable e (view m)) → Good r × (view r ≡ add_enable e (view m))
+  enabled_is r y =
+      let c = clean_is r (add_enable e (view m)) sized_both y in
       (record { clean = c.0; plain = subst Plain (sym c.1) (plain_enable e (view m) enable_low plain) }, c.1)
-
-pub enabled_number : (m : Matrix) (e : ℕ) (r : Made) → r ≡ made_from (enable_answer e (given m)) → r.no ≡ refusal (enable_table e (given m))
-unfolding enable_answer
-enabled_number m e r q = ap (λ (x : Made). x.no) q

@@ -4,15 +4,17 @@ use lib.Dec.{eqb}
 use lib.ListN.{drop, length, take}
 use lib.Seq.{drop_at, length-take-le, take_at}
 use mathlib.Core.Bool.{◌||◌, Bool, false, true}
-use mathlib.Core.List.{◌++◌, List}
+use mathlib.Core.List.{◌++◌, List, map}
 use mathlib.Core.Path.{◌∙◌, ◌≡◌, ap, ap₂, subst, sym}
 use native.Mathlib.Omega.{arith}
 use Prim.Native.Nat.{◌*◌, ◌-◌, ◌<◌, ◌≤◌, ℕ}
 use Rattle.dispatch.proofs.Leaves.{plain-assume, plain_cells, plain-fit, plain_normal}
 use Rattle.dispatch.specs.Good.{Good, Plain}
 use Rattle.lists.specs.Bools.{or_left, or_right}
+use Rattle.lists.specs.Vec.{length-vec}
 use Rattle.matrix.proofs.NormalMade.{sized_normalize}
-use Rattle.matrix.proofs.StepHeld.{clean_held}
+use Rattle.matrix.proofs.StepHeld.{clean_held, clean_wide}
+use Rattle.matrix.proofs.StepLaws.{assumed, map_front}
 use Rattle.matrix.proofs.StepSized.{sized_assume}
 use Rattle.matrix.proofs.Views.{clean_is}
 use Rattle.matrix.specs.declared.Matrix.{Matrix}
@@ -20,16 +22,17 @@ use Rattle.matrix.specs.Mat.{Clean, matrix_from, view}
 use Rattle.rules.proofs.Columns.{normal_cells, test-mem}
 use Rattle.rules.proofs.Evals.{Cells, raw_of-branch, raw_of_leaf}
 use Rattle.rules.proofs.Falls.{distinct_falls}
-use Rattle.rules.specs.Bounds.{cell_max, node_run}
+use Rattle.rules.specs.Bounds.{cell_max, columns_max, node_run}
 use Rattle.rules.specs.declared.Cell.{Cell}
 use Rattle.rules.specs.Dispatch.{distinct, done, raw_of, rules, test}
-use Rattle.rules.specs.Matrix.{assume, Matrix as MatrixOf}
+use Rattle.rules.specs.Matrix.{assume, Matrix as MatrixOf, swap}
 use Rattle.rules.specs.Nets.{cell}
 use Rattle.rules.specs.Normalize.{normalize}
 use Rattle.rules.specs.Tree.{leaf, node, reduce}
 use Rattle.rules.specs.Trits.{bit}
 use Rattle.tree.proofs.Grows.{Took}
-use Rattle.tree.proofs.Laws.{rest}
+use borrow.Rule.Slice.PartMut.{put_mid, same_len_mid}
+use Rattle.tree.proofs.Laws.{part_length, rest}
 use Rattle.tree.specs.Grown.{Arms}
 
 -- ---- w is the normal form of m
@@ -75,6 +78,26 @@ pub record Split (m w : Matrix) (t : Cell) : Type 0 where
   pub normal : view w ≡ normalize (view m)
   pub more : done (view w) ≡ false
   pub test_is : cell t.0 ≡ test (view w)
+
+pub split_of : (m w : Matrix) (t : Cell) (g : Good m) → w ≡ matrix_from (normalize (view m)) → (w.columns ≡ 0 → ⊥) → (w.count ≡ 1 → ⊥) → cell t.0 ≡ test (view w) → Split m w t
+split_of m w t g e a b q = record { good = normal_good m w g e; normal = normal_is m w g e; more = normal_open m w g e a b; test_is = q }
+
+-- an arm before it is normalized: other nets
+abbrev pub with_value : Matrix → List ℕ → Matrix
+with_value w v = record { value = v; columns = w.columns; rows = w.rows; count = w.count }
+
+-- as many slots are in use as the count says
+pub nets_used : (w : Matrix) → Clean w → length (take w.columns w.value) ≡ w.columns
+nets_used w c =
+    let l = ap length (clean_held w c).value ∙ length-vec columns_max 0 (view w).nets in
+    length-take-le w.columns w.value (omega (arith, l, clean_wide w c))
+
+-- the nets in use were lent, and became l
+abbrev pub with_front : Matrix → List ℕ → Matrix
+with_front w l = with_value w (l ++ drop w.columns w.value)
+
+pub front_assumed : (w : Matrix) (t b : ℕ) (l : List ℕ) → Clean w → l ≡ map (swap t b) (take w.columns w.value) → with_front w l ≡ matrix_from (assume t b (view w))
+front_assumed w t b l c e = assumed w t b _ c (ap (λ (k : List ℕ). k ++ drop w.columns w.value) e ∙ map_front (swap t b) w.columns w.value)
 
 pub split_low : (m w : Matrix) (t : Cell) → Split m w t → t.0 ≤ cell_max
 split_low m w t s = omega (arith, s.test_is, s.good.plain.low (test (view w)) (test-mem (view w) s.more))
@@ -134,3 +157,14 @@ arms_stand z o xs ys ws us k l gz go a b m n p =
       zero_at = take_at (take (node_run * k) ys) us (node_run * k) e ∙ a.at;
       one_at = ap (λ (q : List ℕ). take (node_run * l) q) (drop_at (take (node_run * k) ys) us (node_run * k) e) ∙ b.at;
     })
+
+-- ---- the store after the zero arm's k numbers
+
+abbrev pub after : ℕ → List ℕ → List ℕ
+after k ys = take (length ys - k) (drop k ys)
+
+pub after_length : (k : ℕ) (xs ys : List ℕ) → length ys ≡ length xs → length (after k ys) ≡ length xs - k
+after_length k xs ys e = part_length k ys ∙ ap (λ (n : ℕ). n - k) e
+
+pub put_length : (k : ℕ) (xs ys us : List ℕ) → length us ≡ length (after k ys) → length ys ≡ length xs → length (put_mid k (length ys - k) ys us) ≡ length xs
+put_length k xs ys us l e = same_len_mid k (length ys - k) ys us l ∙ e

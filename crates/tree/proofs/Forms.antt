@@ -24,7 +24,8 @@ use Rattle.tree.proofs.Tested.{none_both}
 use Rattle.tree.specs.Form.{Ends, IsTree, LastOf, Split, none_tests}
 use Rattle.tree.specs.Says.{Says}
 use Rattle.tree.specs.declared.inner.Last.{Last}
-use Rattle.tree.specs.declared.inner.Last.TheVariants.{Alone, Bad, Joins}
+use Rattle.tree.specs.declared.inner.Last.TheVariants.{Alone, Joins}
+use Rattle.std.specs.Prelude.{Option, Some, None}
 
 pub tree_ends : (xs : List ℕ) (w : IsTree xs) → Ends w.tree xs
 tree_ends xs w = record { front = []; is = w.is; good = w.good }
@@ -237,17 +238,17 @@ module _ (xs : List ℕ) (e c : ℕ) (l : length xs ≡ e + node_run) (h : get_o
 
 -- ---- the answer on the last entry, taken apart
 
-pub last-bad : (xs : List ℕ) (r : Last) → LastOf xs r → r ≡ Bad → IsTree xs → ⊥
+pub last-bad : (xs : List ℕ) (r : Option Last) → LastOf xs r → r ≡ None → IsTree xs → ⊥
 unfolding LastOf
 last-bad xs r h e = subst (LastOf xs) e h
 
-pub last-alone : (xs : List ℕ) (r : Last) → LastOf xs r → r ≡ Alone → IsTree xs
+pub last-alone : (xs : List ℕ) (r : Last) → LastOf xs (Some r) → r ≡ Alone → IsTree xs
 unfolding LastOf
-last-alone xs r h e = subst (LastOf xs) e h
+last-alone xs r h e = subst (λ (q : Last). LastOf xs (Some q)) e h
 
-pub last_joins : (xs : List ℕ) (r : Last) (z o : ℕ) → LastOf xs r → r ≡ Joins z o → Split xs z o
+pub last_joins : (xs : List ℕ) (r : Last) (z o : ℕ) → LastOf xs (Some r) → r ≡ Joins z o → Split xs z o
 unfolding LastOf
-last_joins xs r z o h e = subst (LastOf xs) e h
+last_joins xs r z o h e = subst (λ (q : Last). LastOf xs (Some q)) e h
 
 pub part_long : (a e : ℕ) (xs : List ℕ) → length (take (e - a) (drop a xs)) ≤ e - a
 part_long a e xs = omega (arith, length-take (e - a) (drop a xs))

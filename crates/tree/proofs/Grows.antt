@@ -9,14 +9,14 @@ use lib.Seq.{drop_at, length-take-le, take_at}
 use Rattle.rules.proofs.Stores.{Cells, encode-length}
 use Rattle.rules.proofs.Trees.{reduce-fit, reduce-peak, size_pos}
 use Rattle.rules.specs.Bounds.{node_run, rules_max}
-use Rattle.rules.specs.Refuse.{NODES}
 use Rattle.rules.specs.Store.{encode, leaf_run}
 use Rattle.rules.specs.Tree.{Fit, Tree, leaf, mk, node, peak, reduce, same, size}
-use Rattle.rules.specs.declared.Place.{Place}
 use Rattle.tree.proofs.Laws.{rest}
-use Rattle.tree.specs.Grown.{Arms, Grown, Outcome, built, short}
+use Rattle.rules.specs.declared.refusal.Refusal.{Refusal}
+use Rattle.rules.specs.declared.refusal.Refusal.TheVariants.{Nodes}
+use Rattle.std.specs.Prelude.{Result, Ok, Err}
+use Rattle.tree.specs.Grown.{Arms, Grown, Outcome, built, built_of, short}
 use Rattle.tree.specs.declared.Built.{Built}
-use Rattle.tree.specs.declared.Built.TheVariants.{Done, Refused}
 
 -- what a sub-dispatch that gave a tree of s entries has left
 pub record Took (t : Tree) (xs ys : List ℕ) (s : ℕ) : Type 0 where
@@ -26,25 +26,26 @@ pub record Took (t : Tree) (xs ys : List ℕ) (s : ℕ) : Type 0 where
   pub within : node_run * s ≤ length xs
   pub pos : 1 ≤ s
 
-pub took : (t : Tree) (xs ys : List ℕ) (r : Built) (p : Place) (s : ℕ) → Grown t xs ys r → r ≡ Done p s → Took t xs ys s
-took t xs ys r p s (built h e a) q =
-    let i : s ≡ size (reduce t) = cc in
+pub took : (t : Tree) (xs ys : List ℕ) (r : Result Built Refusal) (b : Built) → Grown t xs ys r → r ≡ Ok b → Took t xs ys b.size
+took t xs ys r b (built h e a) q =
+    let j : b ≡ built_of (size (reduce t)) = cc in
+    let i : b.size ≡ size (reduce t) = ap (λ (w : Built). w.size) j in
     let l = reduce-peak t in
     let m = size_pos (reduce t) in
     record { is = i; room = h; at = ap (λ (k : ℕ). take (node_run * k) ys) i ∙ a; within = omega arith; pos = omega arith }
-took t xs ys r p s (short h e) q = let z : ◌≡◌ {A = ℕ} 0 1 = cc in absurd (omega arith)
+took t xs ys r b (short h e) q = let z : ◌≡◌ {A = ℕ} 0 1 = cc in absurd (omega arith)
 
-pub gave_up : (t : Tree) (xs ys : List ℕ) (r : Built) (n : ℕ) → Grown t xs ys r → r ≡ Refused n → length xs < node_run * peak t
+pub gave_up : (t : Tree) (xs ys : List ℕ) (r : Result Built Refusal) (n : Refusal) → Grown t xs ys r → r ≡ Err n → length xs < node_run * peak t
 gave_up t xs ys r n (built h e a) q = let z : ◌≡◌ {A = ℕ} 0 1 = cc in absurd (omega arith)
 gave_up t xs ys r n (short h e) q = h
 
 -- ---- a leaf
 
-pub leaf_short : (rs xs ys : List ℕ) → length xs < node_run → Grown (leaf rs) xs ys (Refused NODES)
+pub leaf_short : (rs xs ys : List ℕ) → length xs < node_run → Grown (leaf rs) xs ys (Err Nodes)
 unfolding peak
 leaf_short rs xs ys h = short (omega arith) refl
 
-pub leaf_built : (rs xs ys r : List ℕ) → length rs ≤ rules_max → node_run ≤ length xs → ys ≡ leaf_run rs ++ r → Grown (leaf rs) xs ys (Done (record { 0 = 0 }) 1)
+pub leaf_built : (rs xs ys r : List ℕ) → length rs ≤ rules_max → node_run ≤ length xs → ys ≡ leaf_run rs ++ r → Grown (leaf rs) xs ys (Ok (built_of 1))
 unfolding peak reduce size encode Fit
 leaf_built rs xs ys r f h e =
     let l : length (leaf_run rs) ≡ node_run = encode-length (leaf rs) f in
@@ -65,17 +66,17 @@ reduce-cells (node t z o) h = mk-cells t (reduce z) (reduce o) (same (reduce z) 
 
 module _ (t : ℕ) (z o : Tree) where
   -- the zero arm was refused
-  pub up_zero : (xs ys : List ℕ) → length xs < node_run * peak z → Grown (node t z o) xs ys (Refused NODES)
+  pub up_zero : (xs ys : List ℕ) → length xs < node_run * peak z → Grown (node t z o) xs ys (Err Nodes)
   unfolding peak
   up_zero xs ys h = short (omega arith) refl
 
   -- the one arm was refused
-  pub up_one : (xs ys ws vs : List ℕ) (k : ℕ) → Took z xs ys k → length ws ≡ length xs - node_run * k → length ws < node_run * peak o → Grown (node t z o) xs vs (Refused NODES)
+  pub up_one : (xs ys ws vs : List ℕ) (k : ℕ) → Took z xs ys k → length ws ≡ length xs - node_run * k → length ws < node_run * peak o → Grown (node t z o) xs vs (Err Nodes)
   unfolding peak
   up_one xs ys ws vs k a l h = short (omega (arith, a.is, a.within)) refl
 
   -- both were built, and joined
-  pub up-join : (xs ys ws us vs qs : List ℕ) (k l : ℕ) (r : Built) → Took z xs ys k → Took o ws us l → length ws ≡ length xs - node_run * k → length vs ≡ length xs
+  pub up-join : (xs ys ws us vs qs : List ℕ) (k l : ℕ) (r : Result Built Refusal) → Took z xs ys k → Took o ws us l → length ws ≡ length xs - node_run * k → length vs ≡ length xs
       → Outcome (cond (same (reduce z) (reduce o)) 0 (size (reduce z) + size (reduce o) + 1)) (mk t (reduce z) (reduce o)) vs qs r
       → Grown (node t z o) xs qs r
   unfolding peak reduce

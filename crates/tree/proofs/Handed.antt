@@ -22,8 +22,9 @@ use Rattle.rules.specs.Tree.{Tree, fine, size}
 use Rattle.tree.proofs.Forms.{tree-size}
 use Rattle.tree.specs.Checked.{check_read}
 use Rattle.tree.specs.Form.{Ends, IsTree}
-use Rattle.tree.specs.declared.Checked.TheVariants.{Refused, Tree as Tree-is}
-use Rattle.tree.specs.declared.Checked.{Checked}
+use Rattle.rules.specs.Refused.{number_of}
+use Rattle.rules.specs.declared.refusal.Refusal.{Refusal}
+use Rattle.std.specs.Prelude.{Result, Ok, Err}
 
 -- ---- there is one
 
@@ -120,8 +121,8 @@ unchecked xs root n e = go (tree_at xs root) refl
 
 -- ---- what the answer of the check says
 
-pub tree_seen : (store : List ℕ) (root n : ℕ) (r : Checked) → check_read r ≡ check_answer store root → r ≡ Tree-is n → tree_at store root ≡ some (tree_in store root)
+pub tree_seen : (store : List ℕ) (root n : ℕ) (r : Result ℕ Refusal) → check_read r ≡ check_answer store root → r ≡ Ok n → tree_at store root ≡ some (tree_in store root)
 tree_seen store root n r e q = checked store root n (sym e ∙ ap check_read q)
 
-pub tree_unseen : (store : List ℕ) (root n : ℕ) (r : Checked) → check_read r ≡ check_answer store root → r ≡ Refused n → is_none (tree_at store root) ≡ true
-tree_unseen store root n r e q = ap is_none (unchecked store root n (sym e ∙ ap check_read q))
+pub tree_unseen : (store : List ℕ) (root : ℕ) (why : Refusal) (r : Result ℕ Refusal) → check_read r ≡ check_answer store root → r ≡ Err why → is_none (tree_at store root) ≡ true
+tree_unseen store root why r e q = ap is_none (unchecked store root (number_of why) (sym e ∙ ap check_read q))

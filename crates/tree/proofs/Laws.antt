@@ -6,7 +6,7 @@ use native.Mathlib.Nat.{le_antisymm}
 use native.Mathlib.Numerals.{add-one, one-add}
 use native.Mathlib.Omega.{arith}
 use lib.ListN.{drop, drop_of_length-le, get_or, get_or-replicate, length, length-drop, length-map, length-take, get_or-map, replicate, set, take}
-use lib.Seq.{ext_get_or, get_or-drop, get_or-take, length-take-le, paste, paste-suc}
+use lib.Seq.{ext_get_or, get_or-drop, get_or-take, length-take-le, paste, paste-suc, take_all}
 use Rattle.rules.specs.Bounds.{node_run, rules_max}
 use Rattle.rules.specs.Nets.{cell, number}
 use Rattle.rules.specs.Store.{leaf_run, run_of_node}
@@ -60,14 +60,15 @@ drop_zeros zero m r h = let e : m - 0 ≡ m = omega arith in rw e
 drop_zeros (suc n) zero r h = absurd (omega arith)
 drop_zeros (suc n) (suc m) r h = let e : suc m - suc n ≡ m - n = omega arith in rw e (drop_zeros n m r (omega arith))
 
-pub leaf_done : (xs ys at s : List ℕ) (n : ℕ) → length at ≡ rules_max → n ≤ rules_max → node_run ≤ length xs → ys ≡ replicate (length (take node_run xs)) 0
-    → s ≡ paste (set (ys ++ drop node_run xs) 0 n) 1 (map number at) n → s ≡ leaf_run (take n at) ++ drop node_run xs
-leaf_done xs ys at s n la hn h e p =
+pub leaf_done : (xs ys at s : List ℕ) → length at ≤ rules_max → node_run ≤ length xs → ys ≡ replicate (length (take node_run xs)) 0
+    → s ≡ paste (set (ys ++ drop node_run xs) 0 (length at)) 1 (map number at) (length at) → s ≡ leaf_run at ++ drop node_run xs
+leaf_done xs ys at s hn h e p =
+    let n : ℕ = length at in
     let r : List ℕ = drop node_run xs in
-    let ln : length (take n at) ≡ n = length-take-le n at (omega arith) in
+    let all : take n (map number at) ≡ map number at = take-map number n at ∙ ap (λ (l : List ℕ). map number l) (take_all n at (omega arith)) in
     let d : drop (1 + n) (set (replicate node_run 0 ++ r) 0 n) ≡ replicate (rules_max - n) 0 ++ r =
     ap (λ (k : ℕ). drop k (set (replicate node_run 0 ++ r) 0 n)) (one-add n) ∙ drop_zeros n rules_max r hn in
-    p ∙ rw (cleared-run xs ys h e, take-map number n at, ln, d) (ap (λ (l : List ℕ). n ∷ l) (sym (append_assoc (map number (take n at)) (replicate (rules_max - n) 0) r)))
+    p ∙ rw (cleared-run xs ys h e, all, d) (ap (λ (l : List ℕ). n ∷ l) (sym (append_assoc (map number at) (replicate (rules_max - n) 0) r)))
 
 -- ---- of two runs: other lengths; an index at which they differ; no such index
 

@@ -1,13 +1,14 @@
 -- No entry of a tree tests a net exactly if no branch of it does. Assumes nothing.
-use Prim.Native.Nat.{ℕ, suc, ◌+◌, ◌*◌, ◌-◌, ◌≤◌, ◌<◌}
+use Prim.Native.Nat.{ℕ, suc, ◌+◌, ◌/◌, ◌≤◌, ◌<◌}
 use mathlib.Core.Bool.{Bool, true, false, not, ◌&&◌}
 use mathlib.Core.List.{List, [], ◌++◌, append_assoc, append-nil}
 use mathlib.Core.Path.{◌≡◌, refl, sym, ap, ◌∙◌}
 use native.Mathlib.Omega.{arith}
 use borrow.Author.Tests.{eq-eqb, eqb-false, eqb-true, ne_eqb}
 use lib.Dec.{eqb}
-use lib.ListN.{drop, get_or, length}
-use lib.Seq.{drop_at, drop-drop, get_or-drop}
+use lib.ListN.{get_or, length, length-append}
+use lib.Seq.{drop_at}
+use Rattle.std.proofs.lemmas.List.{get_or_append_left}
 use Rattle.lists.specs.Bools.{by_bool}
 use Rattle.rules.proofs.Stores.{Cells, encode-length}
 use Rattle.rules.specs.Bounds.{node_run}
@@ -58,32 +59,17 @@ none_both n z o fz fo cz co =
     let q = none_append n o fo co 0 (size o) [] (omega arith) in
     rw (p, sym (append-nil (encode o)), q, and_true (untested (cell n) o)) refl
 
--- ---- a turn of a loop over the entries, a stop, the end
+-- ---- an entry at the front, and too few numbers for one
 
-module _ (n : ℕ) (xs : List ℕ) (m i : ℕ) (h : i < m) where
-  at_entry : (b : Bool) → (eqb (get_or xs (node_run * i) 0) node_run && eqb (get_or xs (node_run * i + 1) 0) n) ≡ b
-      → none_tests n (m - i) (drop (node_run * i) xs) ≡ (not b && none_tests n (m - (i + 1)) (drop (node_run * (i + 1)) xs))
-  unfolding none_tests
-  at_entry b e =
-      let s : m - i ≡ suc (m - (i + 1)) = omega arith in
-      let z : node_run * i + 0 ≡ node_run * i = omega arith in
-      let p : get_or (drop (node_run * i) xs) 0 0 ≡ get_or xs (node_run * i) 0 = get_or-drop (node_run * i) xs 0 0 ∙ ap (λ (k : ℕ). get_or xs k 0) z in
-      let q : get_or (drop (node_run * i) xs) 1 0 ≡ get_or xs (node_run * i + 1) 0 = get_or-drop (node_run * i) xs 1 0 in
-      let w : node_run * i + node_run ≡ node_run * (i + 1) = omega arith in
-      let d : drop node_run (drop (node_run * i) xs) ≡ drop (node_run * (i + 1)) xs = drop-drop node_run (node_run * i) xs ∙ ap (λ (k : ℕ). drop k xs) w in
-      rw (s, p, q, e, d)
-
-  pub none_more : (eqb (get_or xs (node_run * i) 0) node_run && eqb (get_or xs (node_run * i + 1) 0) n) ≡ false
-      → none_tests n (m - i) (drop (node_run * i) xs) ≡ none_tests n (m - (i + 1)) (drop (node_run * (i + 1)) xs)
-  none_more e = at_entry false e
-
-  pub none_stop : (eqb (get_or xs (node_run * i) 0) node_run && eqb (get_or xs (node_run * i + 1) 0) n) ≡ true
-      → none_tests n (m - i) (drop (node_run * i) xs) ≡ false
-  none_stop e = at_entry true e
-
-pub none_start : (n : ℕ) (xs : List ℕ) (m : ℕ) → none_tests n (m - 0) xs ≡ none_tests n m xs
-none_start n xs m = let z : m - 0 ≡ m = omega arith in ap (λ (k : ℕ). none_tests n k xs) z
-
-pub none_end : (n : ℕ) (xs : List ℕ) (m i : ℕ) → m ≤ i → none_tests n (m - i) xs ≡ true
+pub none_front : (n : ℕ) (xs run rest : List ℕ) (b : Bool) → xs ≡ run ++ rest → length run ≡ node_run → b ≡ (eqb (get_or run 0 0) node_run && eqb (get_or run 1 0) n)
+    → none_tests n (length xs / node_run) xs ≡ (not b && none_tests n (length rest / node_run) rest)
 unfolding none_tests
-none_end n xs m i h = let z : m - i ≡ 0 = omega arith in rw z
+none_front n xs run rest b w h e =
+    let s : length (run ++ rest) / node_run ≡ suc (length rest / node_run) = omega (arith, length-append run rest, h) in
+    let p : get_or (run ++ rest) 0 0 ≡ get_or run 0 0 = get_or_append_left run rest 0 0 (omega arith) in
+    let q : get_or (run ++ rest) 1 0 ≡ get_or run 1 0 = get_or_append_left run rest 0 1 (omega arith) in
+    rw (w, s, p, q, e, drop_at run rest node_run h)
+
+pub none_end : (n : ℕ) (xs : List ℕ) → length xs < node_run → none_tests n (length xs / node_run) xs ≡ true
+unfolding none_tests
+none_end n xs h = let z : length xs / node_run ≡ 0 = omega arith in rw z

@@ -1,11 +1,11 @@
 -- When numbers are those of one tree, and what is read of their end. Assumes nothing: these are definitions.
-use Rattle.std.specs.Prelude.{ℕ, zero, suc, ◌*◌, ◌-◌, ◌≤◌, ◌<◌, Bool, true, not, ◌&&◌, List, ◌++◌, ◌≡◌, eqb, drop, get_or, length, take}
+use Rattle.std.specs.Prelude.{ℕ, zero, suc, ◌*◌, ◌-◌, ◌≤◌, ◌<◌, Bool, true, not, ◌&&◌, List, ◌++◌, ◌≡◌, eqb, drop, get_or, length, take, Option, Some, None}
 use Rattle.rules.specs.Bounds.{node_run}
 use Rattle.rules.specs.Nets.{number}
 use Rattle.rules.specs.Store.{encode}
 use Rattle.rules.specs.Tree.{Tree, fine, leaf, node, size}
 use Rattle.tree.specs.declared.inner.Last.{Last}
-use Rattle.tree.specs.declared.inner.Last.TheVariants.{Alone, Bad, Joins}
+use Rattle.tree.specs.declared.inner.Last.TheVariants.{Alone, Joins}
 use Rattle.tree.specs.declared.inner.Root.{Root}
 use Rattle.tree.specs.declared.inner.Root.TheVariants.{Branch, Leaf}
 
@@ -43,7 +43,7 @@ pub record Split (xs : List ℕ) (z o : ℕ) : Type 0 where
   pub zero_arm : IsTree xs → IsTree (take z xs)
   pub one_arm : IsTree xs → IsTree (take (o - z) (drop z xs))
 
-unfoldable pub LastOf : List ℕ → Last → Type 0
-LastOf xs Bad = IsTree xs → ⊥
-LastOf xs Alone = IsTree xs
-LastOf xs (Joins z o) = Split xs z o
+unfoldable pub LastOf : List ℕ → Option Last → Type 0
+LastOf xs None = IsTree xs → ⊥
+LastOf xs (Some Alone) = IsTree xs
+LastOf xs (Some (Joins z o)) = Split xs z o

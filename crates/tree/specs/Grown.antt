@@ -1,26 +1,30 @@
 -- What is left of a store into which a tree is built. Assumes nothing: these are definitions.
-use Rattle.std.specs.Prelude.{ℕ, ◌*◌, ◌-◌, ◌≤◌, ◌<◌, List, ◌≡◌, drop, length, take}
+use Rattle.std.specs.Prelude.{ℕ, ◌*◌, ◌-◌, ◌≤◌, ◌<◌, List, ◌≡◌, drop, length, take, Result, Ok, Err}
 use Rattle.rules.proofs.Stores.{Cells}
 use Rattle.rules.specs.Bounds.{node_run}
-use Rattle.rules.specs.Refuse.{NODES}
 use Rattle.rules.specs.Store.{cleared, encode, stored, used}
 use Rattle.rules.specs.Tree.{Fit, Tree, peak, reduce, size}
+use Rattle.rules.specs.declared.refusal.Refusal.{Refusal}
+use Rattle.rules.specs.declared.refusal.Refusal.TheVariants.{Nodes}
 use Rattle.tree.specs.declared.Built.{Built}
-use Rattle.tree.specs.declared.Built.TheVariants.{Done, Refused}
+
+-- the root of a tree of n entries is the last of them
+abbrev pub built_of : ℕ → Built
+built_of n = record { root = record { 0 = n - 1 }; size = n }
 
 -- xs is the store before, ys after: t stands in the first entries if need entries are there, else 7 is answered
-pub data Outcome (need : ℕ) (t : Tree) (xs ys : List ℕ) (r : Built) : Type 0 where
-  built : node_run * need ≤ length xs → r ≡ Done (record { 0 = size t - 1 }) (size t) → take (node_run * size t) ys ≡ encode t → Outcome need t xs ys r
-  short : length xs < node_run * need → r ≡ Refused NODES → Outcome need t xs ys r
+pub data Outcome (need : ℕ) (t : Tree) (xs ys : List ℕ) (r : Result Built Refusal) : Type 0 where
+  built : node_run * need ≤ length xs → r ≡ Ok (built_of (size t)) → take (node_run * size t) ys ≡ encode t → Outcome need t xs ys r
+  short : length xs < node_run * need → r ≡ Err Nodes → Outcome need t xs ys r
 
 -- t is the tree where equal arms still stand
-abbrev pub Grown : Tree → List ℕ → List ℕ → Built → Type 0
+abbrev pub Grown : Tree → List ℕ → List ℕ → Result Built Refusal → Type 0
 Grown t xs ys r = Outcome (peak t) (reduce t) xs ys r
 
 -- the same of the whole store, which is cleared after the root, or wholly
-pub data Whole (t : Tree) (xs ys : List ℕ) (r : Built) : Type 0 where
-  made : peak t ≤ used xs → r ≡ Done (record { 0 = size (reduce t) - 1 }) (size (reduce t)) → ys ≡ stored (reduce t) xs → Whole t xs ys r
-  refused : used xs < peak t → r ≡ Refused NODES → ys ≡ cleared xs → Whole t xs ys r
+pub data Whole (t : Tree) (xs ys : List ℕ) (r : Result Built Refusal) : Type 0 where
+  made : peak t ≤ used xs → r ≡ Ok (built_of (size (reduce t))) → ys ≡ stored (reduce t) xs → Whole t xs ys r
+  refused : used xs < peak t → r ≡ Err Nodes → ys ≡ cleared xs → Whole t xs ys r
 
 -- z and o, of k and l entries, stand at the front
 pub record Arms (z o : Tree) (k l : ℕ) (xs : List ℕ) : Type 0 where

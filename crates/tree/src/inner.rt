@@ -11,7 +11,7 @@ ghost use Rattle.tree.specs.Grown.{Arms, Grown, Outcome};
 ghost use Rattle.tree.specs.Says.{Says};
 
 use crate::Built;
-use rules::{Cell, Place};
+use rules::{Cell, Place, Refusal};
 
 // Numbers of an entry: a count and the rules.
 pub const NODE_RUN: usize = rules::RULES_MAX + 1;
@@ -20,12 +20,7 @@ pub const NODE_RUN: usize = rules::RULES_MAX + 1;
 pub fn places(n: usize) -> usize
     ensures { result ≡ min (n / node_run) nodes_max }
 {
-    let e = n / NODE_RUN;
-    if e < rules::NODES_MAX {
-        e
-    } else {
-        rules::NODES_MAX
-    }
+    (n / NODE_RUN).min(rules::NODES_MAX)
 }
 
 // Numbers of a store of n that dispatch uses.
@@ -39,11 +34,7 @@ pub fn in_use(n: usize) -> usize
 pub fn clear(store: &mut [u16])
     ensures { store.new ≡ replicate (length store.old) 0 }
 {
-    let mut i = 0;
-    while i < store.len() {
-        store[i] = 0;
-        i += 1;
-    }
+    store.fill(0);
 }
 
 // A rule is a cell, so what a constant's number is does not matter.
@@ -57,17 +48,15 @@ fn number(net: u16) -> u16
     }
 }
 
-// Writes a leaf of the first rules, which are net codes, into the first entry.
-fn put_leaf(store: &mut [u16], items: [u16; rules::RULES_MAX], count: usize)
-    requires { (count ≤ rules_max) × (node_run ≤ length store.old) }
-    ensures { store.new ≡ leaf_run (take count items) ++ drop node_run store.old }
+// Writes a leaf of rules, which are net codes, into the first entry.
+fn put_leaf(store: &mut [u16], rules: &[u16])
+    requires { (length rules.now ≤ rules_max) × (node_run ≤ length store.old) }
+    ensures { store.new ≡ leaf_run rules.now ++ drop node_run store.old }
 {
     clear(&mut store[..NODE_RUN]);
-    store[0] = count as u16;
-    let mut i = 0;
-    while i < count {
-        store[i + 1] = number(items[i]);
-        i += 1;
+    store[0] = rules.len() as u16;
+    for (i, net) in rules.iter().enumerate() {
+        store[i + 1] = number(*net);
     }
 }
 
@@ -87,64 +76,46 @@ fn same_runs(store: &[u16], k0: usize, k1: usize) -> bool
     requires { k0 + k1 ≤ length store.now }
     ensures { Says result (take k0 store.now ≡ take k1 (drop k0 store.now)) }
 {
-    if k0 != k1 {
-        return false;
-    }
-    let mut i = 0;
-    while i < k0 {
-        let j = k0 + i;
-        if store[i] != store[j] {
-            return false;
-        }
-        i += 1;
-    }
-    true
+    store[..k0] == store[k0..k0 + k1]
 }
 
 // A leaf at the front, if there is room.
-pub fn leaf(store: &mut [u16], items: [u16; rules::RULES_MAX], count: usize) -> Built
-    requires { count ≤ rules_max }
-    ensures { Grown (leaf (take count items)) store.old store.new result }
+pub fn leaf(store: &mut [u16], rules: &[u16]) -> Result<Built, Refusal>
+    requires { length rules.now ≤ rules_max }
+    ensures { Grown (leaf rules.now) store.old store.new result }
 {
     if store.len() < NODE_RUN {
-        return Built::Refused(rules::NODES);
+        return Err(Refusal::Nodes);
     }
-    put_leaf(store, items, count);
-    Built::Done {
+    put_leaf(store, rules);
+    Ok(Built {
         root: Place(0),
         size: 1,
-    }
+    })
 }
 
 // The two arms stand in the first `zero` entries and the `one` after them: leaves the one arm out if it is the same, else adds the branch.
-pub fn join(store: &mut [u16], test: Cell, zero: usize, one: usize) -> Built
+pub fn join(store: &mut [u16], test: Cell, zero: usize, one: usize) -> Result<Built, Refusal>
     requires { (1 ≤ zero) × (node_run * zero + node_run * one ≤ length store.old) × (length store.old ≤ node_run * nodes_max) }
     ensures { (z o : Tree) → Arms z o zero one store.old → Outcome (cond (same z o) 0 (size z + size o + 1)) (mk (cell test.0) z o) store.old store.new result }
 {
     let k0 = NODE_RUN * zero;
     let k1 = NODE_RUN * one;
     if same_runs(store, k0, k1) {
-        return Built::Done {
+        return Ok(Built {
             root: Place(zero - 1),
             size: zero,
-        };
+        });
     }
     let k = k0 + k1;
     if store.len() < k + NODE_RUN {
-        return Built::Refused(rules::NODES);
+        return Err(Refusal::Nodes);
     }
     put_branch(&mut store[k..], test, one);
-    Built::Done {
+    Ok(Built {
         root: Place(zero + one),
         size: zero + one + 1,
-    }
-}
-
-// What a number of the store counts.
-fn wide(x: u16) -> usize
-    ensures { result ≡ x }
-{
-    x as usize
+    })
 }
 
 // The root of the tree in whose entries a slice ends: how many rules a leaf has, or a branch's test and where its arms end.
@@ -159,12 +130,12 @@ pub fn root_of(store: &[u16]) -> Root
     ensures { (t : Tree) → Ends t store.now → RootOf t store.now result }
 {
     let e = store.len() - NODE_RUN;
-    let head = wide(store[e]);
+    let head = usize::from(store[e]);
     if head != NODE_RUN {
         return Root::Leaf(head);
     }
     let test = Cell(store[e + 1]);
-    let k = NODE_RUN * wide(store[e + 2]);
+    let k = NODE_RUN * usize::from(store[e + 2]);
     Root::Branch {
         test,
         one: e,
@@ -176,14 +147,7 @@ pub fn root_of(store: &[u16]) -> Root
 fn zeros(run: &[u16]) -> bool
     ensures { Says result (run.now ≡ replicate (length run.now) 0) }
 {
-    let mut i = 0;
-    while i < run.len() {
-        if run[i] != 0 {
-            return false;
-        }
-        i += 1;
-    }
-    true
+    run.iter().all(|n| *n == 0)
 }
 
 // Whether the numbers of a leaf's rules strictly ascend to the last allowed.
@@ -191,9 +155,8 @@ fn ascend(run: &[u16]) -> bool
     ensures { result ≡ (all is_name (map cell run.now) && ascends (map cell run.now)) }
 {
     let mut low = 0;
-    let mut i = 0;
-    while i < run.len() {
-        let n = run[i];
+    for n in run {
+        let n = *n;
         if n < low {
             return false;
         }
@@ -201,7 +164,6 @@ fn ascend(run: &[u16]) -> bool
             return false;
         }
         low = n + 1;
-        i += 1;
     }
     true
 }
@@ -222,15 +184,11 @@ fn is_leaf(run: &[u16], n: usize) -> bool
 fn untested(store: &[u16], test: Cell) -> bool
     ensures { result ≡ none_tests test.0 (length store.now / node_run) store.now }
 {
-    let m = store.len() / NODE_RUN;
     let n = test.0;
-    let mut i = 0;
-    while i < m {
-        let p = NODE_RUN * i;
-        if tests(store[p], store[p + 1], n) {
+    for run in store.chunks_exact(NODE_RUN) {
+        if tests(run[0], run[1], n) {
             return false;
         }
-        i += 1;
     }
     true
 }
@@ -239,67 +197,63 @@ fn untested(store: &[u16], test: Cell) -> bool
 fn tests(head: u16, test: u16, n: u16) -> bool
     ensures { result ≡ (eqb head node_run && eqb test n) }
 {
-    if wide(head) != NODE_RUN {
-        return false;
-    }
-    test == n
+    usize::from(head) == NODE_RUN && test == n
 }
 
-// What the last entry says: no tree ends so; it is a tree by itself; or it joins two, which stand up to `zero` and from there up to `one`.
+// What the last entry says, if a tree may end so: it is a tree by itself, or it joins two, which stand up to `zero` and from there up to `one`.
 #[derive(Clone, Copy)]
 enum Last {
-    Bad,
     Alone,
     Joins { zero: usize, one: usize },
 }
 
 // The last entry is a branch's: whether all but its arms is well formed.
-fn branch_of(store: &[u16], e: usize) -> Last
+fn branch_of(store: &[u16], e: usize) -> Option<Last>
     requires { (length store.now ≡ e + node_run) × (get_or store.now e 0 ≡ node_run) }
     ensures { LastOf store.now result }
 {
     let a = e + 3;
     if !zeros(&store[a..]) {
-        return Last::Bad;
+        return None;
     }
     let test = store[e + 1];
     if rules::CELL_MAX < test {
-        return Last::Bad;
+        return None;
     }
-    let k = NODE_RUN * wide(store[e + 2]);
+    let k = NODE_RUN * usize::from(store[e + 2]);
     if e < k {
-        return Last::Bad;
+        return None;
     }
     if !untested(&store[..e], Cell(test)) {
-        return Last::Bad;
+        return None;
     }
-    Last::Joins {
+    Some(Last::Joins {
         zero: e - k,
         one: e,
-    }
+    })
 }
 
-fn last_of(store: &[u16]) -> Last
+fn last_of(store: &[u16]) -> Option<Last>
     ensures { LastOf store.now result }
 {
     if store.len() < NODE_RUN {
-        return Last::Bad;
+        return None;
     }
     let e = store.len() - NODE_RUN;
-    let head = wide(store[e]);
+    let head = usize::from(store[e]);
     if head == NODE_RUN {
         return branch_of(store, e);
     }
     if NODE_RUN < head {
-        return Last::Bad;
+        return None;
     }
     if e != 0 {
-        return Last::Bad;
+        return None;
     }
     if is_leaf(store, head) {
-        return Last::Alone;
+        return Some(Last::Alone);
     }
-    Last::Bad
+    None
 }
 
 // Whether a slice holds the entries of one well formed tree, and nothing else.
@@ -307,9 +261,9 @@ pub fn is_tree(store: &[u16]) -> bool
     ensures { Says result (IsTree store.now) }
 {
     match last_of(store) {
-        Last::Bad => false,
-        Last::Alone => true,
-        Last::Joins { zero, one } => {
+        None => false,
+        Some(Last::Alone) => true,
+        Some(Last::Joins { zero, one }) => {
             if !is_tree(&store[zero..one]) {
                 return false;
             }

@@ -6,36 +6,29 @@ ghost use Rattle.std.specs.Prelude.{◌≡◌};
 ghost use Rattle.rules.specs.Answers.{check_answer};
 ghost use Rattle.tree.specs.Checked.{check_read};
 
-use rules::Place;
+use rules::{Place, Refusal};
 
 pub mod inner;
 
-// A sub-dispatch's answer: where its tree's root stands and how many entries the tree has, or number 7.
+// A tree that was built: where its root stands and how many entries it has.
 #[derive(Clone, Copy)]
-pub enum Built {
-    Done { root: Place, size: usize },
-    Refused(u8),
+pub struct Built {
+    pub root: Place,
+    pub size: usize,
 }
 
-// The size of a tree handed in, or number 12.
-#[derive(Clone, Copy)]
-pub enum Checked {
-    Tree(usize),
-    Refused(u8),
-}
-
-// Whether the entries up to the root are those of one well formed tree.
-pub fn check(store: &[u16], root: Place) -> Checked
+// Its size, where the entries up to the root are those of one well formed tree.
+pub fn check(store: &[u16], root: Place) -> Result<usize, Refusal>
     ensures { check_read result ≡ check_answer store.now root.0 }
 {
     let at = root.0;
     if inner::places(store.len()) <= at {
-        return Checked::Refused(rules::FORM);
+        return Err(Refusal::Form);
     }
     let size = at + 1;
     let k = inner::NODE_RUN * size;
     if inner::is_tree(&store[..k]) {
-        return Checked::Tree(size);
+        return Ok(size);
     }
-    Checked::Refused(rules::FORM)
+    Err(Refusal::Form)
 }

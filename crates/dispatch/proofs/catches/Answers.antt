@@ -1,11 +1,10 @@
+use Rattle.std.proofs.Common.{◌∙◌, ap}
 use Rattle.dispatch.proofs.Lasts.{catches_last, catches_none}
-use Rattle.matrix.proofs.TidySlots.{slots}
+use Rattle.rules.specs.Matrix.{all_x}
 use Rattle.dispatch.proofs.catches.Goals as goal
 
-pub returns-then-n-eq0 : goal.returns-then-n-eq0
-returns-then-n-eq0 c = catches_none c.args.m _ c.rows_used-n.ensures.1 c.if-n-eq0.true
+pub returns-in-Some : goal.returns-in-Some
+returns-in-Some c = c.undef.ensures ∙ ap all_x c.masks_in_use.ensures ∙ catches_last c.args.m.now c.rows_in_use.result.now c.rows_in_use.ensures.items c.in-Some.row.now c.in-Some.ensures.value
 
-pub returns : goal.returns
-returns c =
-    let m = c.args.m in
-    catches_last m _ c.rows_used-n.ensures.1 (slots m _ c.well_formed.0) c.if-n-eq0.false _ _ c.cut.ensures.1 c.undef.ensures
+pub returns-in-None : goal.returns-in-None
+returns-in-None c = catches_none c.args.m.now c.rows_in_use.result.now c.rows_in_use.ensures.items c.in-None.ensures.value

@@ -1,25 +1,19 @@
-use mathlib.Core.Path.{◌∙◌, ◌≡◌, ap, sym}
-use native.Mathlib.Omega.{arith}
-use Prim.Native.Nat.{◌-◌, ℕ}
+use Rattle.std.proofs.Common.{◌≡◌, ◌∙◌, ap, sym, arith, ◌-◌, ◌+◌, ℕ, List, length}
 use Rattle.dispatch.proofs.Choices.{least_end, least-keep, least_more}
 use Rattle.dispatch.specs.Choice.{least}
 use Rattle.dispatch.proofs.fewest.Goals as goal
+use Rattle.dispatch.proofs.fewest.Goals.{else-count-counts, then-count-counts}
 
-pub loop-i-init : goal.loop-i-init
-loop-i-init c =
-    let a = c.args in
-    let e : a.n - 0 ≡ a.n = omega arith in
-    (omega arith, omega arith, ap (λ (k : ℕ). least a.counts k 0 0) e)
-
-pub loop-i-preserved-then-counts-j : goal.loop-i-preserved-then-counts-j
-loop-i-preserved-then-counts-j c =
-    let v = c.loop-i.invariant in
-    (omega arith, omega (arith, c.requires), sym (least_more c.args.counts c.args.n c.loop-i.i c.loop-i.at c.loop-i-test.true c.if-counts-j.true) ∙ v.2)
-
-pub loop-i-preserved : goal.loop-i-preserved
-loop-i-preserved c =
-    let v = c.loop-i.invariant in
-    (omega arith, v.1, sym (least-keep c.args.counts c.args.n c.loop-i.i c.loop-i.at c.loop-i-test.true c.if-counts-j.false) ∙ v.2)
+pub loop-j-preserved : goal.loop-j-preserved
+loop-j-preserved c =
+    let cs : List ℕ = c.args.counts.now in
+    let n : ℕ = length cs in
+    elim c.if-count-counts.branch [
+      | then-count-counts w ↦
+          (omega (arith, w.at-is), ap (λ (k : ℕ). least cs (n - (c.loop-j.j + 1)) (c.loop-j.j + 1) k) w.at-is ∙ sym (least_more cs n c.loop-j.j c.loop-j.at c.loop-j-test.true w.if-count-counts.true) ∙ c.loop-j.invariant.1)
+      | else-count-counts w ↦
+          (omega (arith, w.at-is), ap (λ (k : ℕ). least cs (n - (c.loop-j.j + 1)) (c.loop-j.j + 1) k) w.at-is ∙ sym (least-keep cs n c.loop-j.j c.loop-j.at c.loop-j-test.true w.if-count-counts.false) ∙ c.loop-j.invariant.1)
+    ]
 
 pub returns : goal.returns
-returns c = sym (least_end c.args.counts c.args.n c.loop-i.i c.loop-i.at c.loop-i-test.false) ∙ c.loop-i.invariant.2
+returns c = sym (least_end c.args.counts.now (length c.args.counts.now) c.loop-j.j c.loop-j.at c.loop-j-test.false) ∙ c.loop-j.invariant.1

@@ -1,6 +1,6 @@
 use lib.ListN.{length}
 use mathlib.Core.List.{List}
-use mathlib.Core.Path.{subst}
+use mathlib.Core.Path.{◌∙◌, subst}
 use native.Mathlib.Omega.{arith}
 use Prim.Native.Nat.{ℕ}
 use Rattle.dispatch.proofs.Leaves.{first-few, first-rules}
@@ -10,11 +10,9 @@ use Rattle.rules.specs.Tree.{leaf}
 use Rattle.tree.specs.Grown.{Grown}
 use Rattle.dispatch.proofs.leaf_of.Goals as goal
 
-pub leaf-requires : goal.leaf-requires
-leaf-requires c = let m = c.args.m in let p = c.requires in omega (arith, first-few (length (view m).nets) (view m).rows m.rows p.sized.each (clean_held m p).rows)
-
 pub returns : goal.returns
 returns c =
     let m = c.args.m in
     let p = c.requires in
-    subst (λ (rs : List ℕ). Grown (leaf rs) c.args.store.now c.leaf.new.store c.leaf.result) (first-rules (length (view m).nets) (view m).rows m.rows p.sized.each (clean_held m p).rows) c.leaf.ensures
+    subst (λ (rs : List ℕ). Grown (leaf rs) c.args.store.now c.leaf.new.store c.leaf.result)
+    (c.slice.ensures.items ∙ first-rules (length (view m).nets) (view m).rows m.rows p.sized.each (clean_held m p).rows) c.leaf.ensures

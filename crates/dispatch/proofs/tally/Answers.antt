@@ -1,8 +1,4 @@
-use borrow.Author.Rules.{rules}
-use lib.ListN.{get_or}
-use mathlib.Core.Path.{◌∙◌, ◌≡◌, ap, refl}
-use native.Mathlib.Omega.{arith}
-use Prim.Native.Nat.{◌+◌, ℕ}
+use Rattle.std.proofs.Common.{◌≡◌, ◌+◌, ◌∙◌, ap, refl, arith, ℕ, get_or, length}
 use Rattle.dispatch.proofs.Choices.{upto_turn}
 use Rattle.dispatch.specs.Choice.{upto}
 use Rattle.lists.specs.Vec.{vec}
@@ -10,21 +6,11 @@ use Rattle.rules.specs.Bounds.{columns_max}
 use Rattle.rules.specs.Trits.{bit, is_x}
 use Rattle.dispatch.proofs.tally.Goals as goal
 
-pub loop-i-init : goal.loop-i-init
+pub loop-j-init : goal.loop-j-init
 unfolding vec upto
-loop-i-init c = (search rules, refl)
+loop-j-init c = refl
 
-pub more-x-requires : goal.more-x-requires
-more-x-requires c = c.requires.1 c.loop-i.i c.loop-i-test.true
-
-pub loop-i-preserved : goal.loop-i-preserved
-loop-i-preserved c =
+pub loop-j-preserved : goal.loop-j-preserved
+loop-j-preserved c =
     let a = c.args in
-    let v = c.loop-i.invariant in
-    (omega arith, upto_turn columns_max (λ (j : ℕ). bit (is_x (get_or a.pattern j 0)) + get_or a.counts j 0) _ c.loop-i.i _ (omega arith) v.1 c.more-x.ensures)
-
-pub returns : goal.returns
-returns c =
-    let a = c.args in
-    let e : c.loop-i.i ≡ a.n = omega arith in
-    c.loop-i.invariant.1 ∙ ap (λ (k : ℕ). vec columns_max 0 (upto (λ (j : ℕ). bit (is_x (get_or a.pattern j 0)) + get_or a.counts j 0) k)) e
+    upto_turn columns_max (λ (i : ℕ). bit (is_x (get_or a.pattern.now i 0)) + get_or a.counts i 0) _ c.loop-j.j _ (omega (arith, c.requires.0, c.loop-j-test.true)) c.loop-j.invariant c.more-x.ensures

@@ -11,9 +11,6 @@ use Rattle.tree.proofs.check.Goals as goal
 pub returns-then-places-at : goal.returns-then-places-at
 returns-then-places-at c = sym (check_none c.args.store.now c.args.root.0 (tree_far c.args.store.now c.args.root.0 (omega (arith, c.if-places-at.true, c.places.ensures))))
 
-pub slice_bounds-is_tree-end : goal.slice_bounds-is_tree-end
-slice_bounds-is_tree-end c = sym (length-take-le (node_run * (c.args.root.0 + 1)) c.args.store.now (omega (arith, c.if-places-at.false, c.places.ensures)))
-
 pub returns-then-is_tree : goal.returns-then-is_tree
 returns-then-is_tree c =
     let xs : List ℕ = c.args.store.now in

@@ -23,24 +23,18 @@ pub returns-then-test-gt-CELL_MAX : goal.returns-then-test-gt-CELL_MAX
 unfolding LastOf
 returns-then-test-gt-CELL_MAX c = λ w. omega (arith, c.if-test-gt-CELL_MAX.true, (parts c.args.store.now c.args.e _ c.requires.0 c.requires.1 refl w).low)
 
-pub overflow_mul-k : goal.overflow_mul-k
-overflow_mul-k c = omega (arith, c.wide-k.ensures, c.shared_slice_known-3-1.given (c.args.e + 2))
-
 pub returns-then-e-k : goal.returns-then-e-k
 unfolding LastOf
-returns-then-e-k c = λ w. omega (arith, c.if-e-k.true, (parts c.args.store.now c.args.e c.wide-k.result c.requires.0 c.requires.1 c.wide-k.ensures w).room)
-
-pub slice_bounds-untested-end : goal.slice_bounds-untested-end
-slice_bounds-untested-end c = sym (length-take-le c.args.e c.args.store.now (omega (arith, c.requires.0)))
+returns-then-e-k c = λ w. omega (arith, c.if-e-k.true, (parts c.args.store.now c.args.e c.from-k.result c.requires.0 c.requires.1 c.from-k.ensures w).room)
 
 pub returns-then-not-untested : goal.returns-then-not-untested
 unfolding LastOf
-returns-then-not-untested c = λ w. true≢false (sym (parts c.args.store.now c.args.e c.wide-k.result c.requires.0 c.requires.1 c.wide-k.ensures w).none ∙ sym c.untested.ensures ∙ not-true _ (ap not c.if-not-untested.true))
+returns-then-not-untested c = λ w. true≢false (sym (parts c.args.store.now c.args.e c.from-k.result c.requires.0 c.requires.1 c.from-k.ensures w).none ∙ sym c.untested.ensures ∙ not-true _ (ap not c.if-not-untested.true))
 
 pub returns : goal.returns
 unfolding LastOf
 returns c =
     let xs : List ℕ = c.args.store.now in
     let s = zeros_of c.zeros.result (c.args.e + 3) xs c.zeros.ensures in
-    split xs c.args.e c.wide-k.result c.requires.0 c.requires.1 c.wide-k.ensures
+    split xs c.args.e c.from-k.result c.requires.0 c.requires.1 c.from-k.ensures
     (s.yes (not-false _ (ap not c.if-not-zeros.false))) c.if-test-gt-CELL_MAX.false c.if-e-k.false (sym c.untested.ensures ∙ not-false _ (ap not c.if-not-untested.false))

@@ -13,20 +13,14 @@ returns-then-store-lt-NODE_RUN c = λ w. omega (arith, c.if-store-lt-NODE_RUN.tr
 
 pub returns-then-head-gt-NODE_RUN : goal.returns-then-head-gt-NODE_RUN
 unfolding LastOf
-returns-then-head-gt-NODE_RUN c = λ w. too_high c.args.store.now w.tree (tree_ends c.args.store.now w) (omega (arith, c.if-head-gt-NODE_RUN.true, c.wide-head.ensures))
+returns-then-head-gt-NODE_RUN c = λ w. too_high c.args.store.now w.tree (tree_ends c.args.store.now w) (omega (arith, c.if-head-gt-NODE_RUN.true, c.from-head.ensures))
 
 pub returns-then-e-ne0 : goal.returns-then-e-ne0
 unfolding LastOf
 returns-then-e-ne0 c =
     λ w.
-    let l = lone c.args.store.now w.tree w.is w.good (λ q. c.if-head-eq-NODE_RUN.false (c.wide-head.ensures ∙ q)) in
+    let l = lone c.args.store.now w.tree w.is w.good (λ q. c.if-head-eq-NODE_RUN.false (c.from-head.ensures ∙ q)) in
     c.if-e-ne0.true (omega (arith, l))
-
-pub is_leaf-requires : goal.is_leaf-requires
-is_leaf-requires c =
-    let l : length c.args.store.now ≡ node_run = omega (arith, c.if-e-ne0.false, c.if-store-lt-NODE_RUN.false) in
-    let n : c.wide-head.result < node_run = omega (arith, c.if-head-gt-NODE_RUN.false, c.if-head-eq-NODE_RUN.false) in
-    (l, c.wide-head.ensures ∙ ap (λ (k : ℕ). get_or c.args.store.now k 0) c.if-e-ne0.false, n)
 
 pub returns-then-is_leaf : goal.returns-then-is_leaf
 unfolding LastOf

@@ -17,7 +17,7 @@ bounds-store-e c =
     omega (arith, run-there)
 
 pub returns-then-head-ne-NODE_RUN : goal.returns-then-head-ne-NODE_RUN
-returns-then-head-ne-NODE_RUN c = λ t e. root_leaf t c.args.store.now c.wide-head.result e c.wide-head.ensures c.if-head-ne-NODE_RUN.true
+returns-then-head-ne-NODE_RUN c = λ t e. root_leaf t c.args.store.now c.from-head.result e c.from-head.ensures c.if-head-ne-NODE_RUN.true
 
 pub bounds-store-e-2 : goal.bounds-store-e-2
 bounds-store-e-2 c =
@@ -29,11 +29,8 @@ bounds-store-e-3 c =
     let run-there : node_run ≤ length c.args.store.now = ends_run c.requires.tree c.args.store.now c.requires.ends in
     omega (arith, run-there)
 
-pub overflow_mul-k : goal.overflow_mul-k
-overflow_mul-k c = omega (arith, count_room c.requires.tree c.args.store.now c.requires.ends (sym c.wide-head.ensures ∙ c.if-head-ne-NODE_RUN.false), c.wide-k.ensures)
-
 pub overflow_sub-result : goal.overflow_sub-result
-overflow_sub-result c = omega (arith, count_room c.requires.tree c.args.store.now c.requires.ends (sym c.wide-head.ensures ∙ c.if-head-ne-NODE_RUN.false), c.wide-k.ensures)
+overflow_sub-result c = omega (arith, count_room c.requires.tree c.args.store.now c.requires.ends (sym c.from-head.ensures ∙ c.if-head-ne-NODE_RUN.false), c.from-k.ensures)
 
 pub returns : goal.returns
-returns c = λ t e. root_node t c.args.store.now _ c.wide-k.result e (sym c.wide-head.ensures ∙ c.if-head-ne-NODE_RUN.false) refl c.wide-k.ensures
+returns c = λ t e. root_node t c.args.store.now _ c.from-k.result e (sym c.from-head.ensures ∙ c.if-head-ne-NODE_RUN.false) refl c.from-k.ensures

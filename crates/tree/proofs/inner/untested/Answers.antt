@@ -1,26 +1,24 @@
-use Prim.Native.Nat.{ℕ, ◌*◌, ◌/◌}
-use mathlib.Core.List.{List}
-use mathlib.Core.Path.{sym, ◌∙◌}
-use native.Mathlib.Omega.{arith}
-use lib.ListN.{drop, length}
+use Rattle.std.proofs.Common.{sym, ap, ◌∙◌, not, ◌&&◌, ◌/◌, Bool, length, arith}
 use Rattle.rules.specs.Bounds.{node_run}
-use Rattle.tree.proofs.Tested.{none_end, none_more, none_start, none_stop}
+use Rattle.tree.proofs.Tested.{none_end, none_front}
+use Rattle.tree.specs.Form.{none_tests}
 use Rattle.tree.proofs.inner.untested.Goals as goal
-
-pub loop-i-init : goal.loop-i-init
-loop-i-init c = (omega arith, none_start c.args.test.0 c.args.store.now (length c.args.store.now / node_run))
 
 pub returns-then-tests : goal.returns-then-tests
 returns-then-tests c =
-    let xs : List ℕ = c.args.store.now in
-    sym (none_stop c.args.test.0 xs (length xs / node_run) c.loop-i.i c.loop-i-test.true (sym c.tests.ensures ∙ c.if-tests.true)) ∙ c.loop-i.invariant.1
+    let s = c.in-Some.ensures.steps in
+    let w = none_front c.args.test.0 c.loop-run.run-iterator.rest.now c.in-Some.run'.now c.next.new.self.rest.now c.tests.result s.1.0 (s.1.1 ∙ c.loop-run.invariant.0) c.tests.ensures in
+    sym (ap (λ (b : Bool). not b && none_tests c.args.test.0 (length c.next.new.self.rest.now / node_run) c.next.new.self.rest.now) c.if-tests.true) ∙ sym w ∙ c.loop-run.invariant.1
 
-pub loop-i-preserved : goal.loop-i-preserved
-loop-i-preserved c =
-    let xs : List ℕ = c.args.store.now in
-    (omega arith, sym (none_more c.args.test.0 xs (length xs / node_run) c.loop-i.i c.loop-i-test.true (sym c.tests.ensures ∙ c.if-tests.false)) ∙ c.loop-i.invariant.1)
+pub loop-run-preserved : goal.loop-run-preserved
+loop-run-preserved c =
+    let s = c.in-Some.ensures.steps in
+    let w = none_front c.args.test.0 c.loop-run.run-iterator.rest.now c.in-Some.run'.now c.next.new.self.rest.now c.tests.result s.1.0 (s.1.1 ∙ c.loop-run.invariant.0) c.tests.ensures in (
+      s.0 ∙ c.loop-run.invariant.0,
+      sym (ap (λ (b : Bool). not b && none_tests c.args.test.0 (length c.next.new.self.rest.now / node_run) c.next.new.self.rest.now) c.if-tests.false) ∙ sym w ∙ c.loop-run.invariant.1,
+    )
 
 pub returns : goal.returns
 returns c =
-    let xs : List ℕ = c.args.store.now in
-    sym (none_end c.args.test.0 (drop (node_run * c.loop-i.i) xs) (length xs / node_run) c.loop-i.i c.loop-i-test.false) ∙ c.loop-i.invariant.1
+    let s = c.in-None.ensures.steps in
+    sym (none_end c.args.test.0 c.loop-run.run-iterator.rest.now (omega (arith, s.1.0, c.loop-run.invariant.0))) ∙ c.loop-run.invariant.1

@@ -1,12 +1,8 @@
-use Prim.Native.Nat.{◌≤◌, ◌-◌, ◌*◌}
-use mathlib.Core.Path.{◌≡◌}
-use lib.ListN.{drop}
+use Rattle.std.specs.Prelude.{◌≡◌, ◌/◌, length}
 use Rattle.rules.specs.Bounds.{node_run}
 use Rattle.tree.specs.Form.{none_tests}
 use Rattle.tree.proofs.inner.untested.Given as goal
 
-abbrev pub invariant-loop-i : goal.invariant-loop-i
-invariant-loop-i l = (l.i ≤ l.m) × (none_tests l.n (l.m - l.i) (drop (node_run * l.i) l.store) ≡ none_tests l.n l.m l.store)
-
-abbrev pub decreases-loop-i : goal.decreases-loop-i
-decreases-loop-i l = l.m - l.i
+abbrev pub invariant-loop-run : goal.invariant-loop-run
+invariant-loop-run l =
+    (l.run-iterator.size ≡ node_run) × (none_tests l.n (length l.run-iterator.rest.now / node_run) l.run-iterator.rest.now ≡ none_tests l.n (length l.store / node_run) l.store)
