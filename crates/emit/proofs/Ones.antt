@@ -1,8 +1,7 @@
 -- What each public call of this crate promises leaves no choice. Assumes nothing.
 use Prim.Native.Nat.{ℕ}
 use mathlib.Core.List.{List}
-use mathlib.Core.Path.{◌≡◌, ap, refl, sym, ◌∙◌}
-use native.Mathlib.Omega.{arith}
+use mathlib.Core.Path.{ap, refl, sym, ◌∙◌}
 use Rattle.emit.proofs.one_hot.Kinds as one-hot-kinds
 use Rattle.emit.proofs.one_hot.Reads as one-hot-reads
 use Rattle.emit.proofs.disjoint.Kinds as disjoint-kinds
@@ -10,15 +9,8 @@ use Rattle.emit.proofs.disjoint.Reads as disjoint-reads
 use Rattle.emit.proofs.prefix.Kinds as prefix-kinds
 use Rattle.emit.proofs.prefix.Reads as prefix-reads
 use Rattle.emit.specs.Calls.{prefix_read}
-use Rattle.emit.specs.declared.Together.{Together}
-use Rattle.emit.specs.declared.Together.TheVariants.{Length, Refused}
 use Rattle.lists.specs.One.{One}
-
-prefix_read_lem : (r q : Together) → prefix_read r ≡ prefix_read q → r ≡ q
-prefix_read_lem (Length m) (Length n) e = let i : m ≡ n = cc in ap Length i
-prefix_read_lem (Length m) (Refused n) e = let z : ◌≡◌ {A = ℕ} 0 1 = cc in absurd (omega arith)
-prefix_read_lem (Refused m) (Length n) e = let z : ◌≡◌ {A = ℕ} 0 1 = cc in absurd (omega arith)
-prefix_read_lem (Refused m) (Refused n) e = let i : m ≡ n = cc in ap Refused i
+use Rattle.rules.proofs.Told.{read_one}
 
 pub one_hot-one : One 3 one-hot-kinds.ps one-hot-kinds.r one-hot-reads.Post
 one_hot-one κs a x y ws vs e f = (e.0 ∙ sym f.0, ap (λ (s : List ℕ). (tt, (tt, (tt, (tt, (s, tt)))))) (e.1 ∙ sym f.1))
@@ -27,4 +19,4 @@ pub disjoint-one : One 6 disjoint-kinds.ps disjoint-kinds.r disjoint-reads.Post
 disjoint-one κs a x y ws vs e f = (e.0 ∙ sym f.0, ap (λ (s : List ℕ). (tt, (tt, (tt, (tt, (tt, (tt, (tt, (s, tt))))))))) (e.1 ∙ sym f.1))
 
 pub prefix-one : One 3 prefix-kinds.ps prefix-kinds.r prefix-reads.Post
-prefix-one κs a x y ws vs e f = (prefix_read_lem x y (e ∙ sym f), refl)
+prefix-one κs a x y ws vs e f = (read_one (λ n. n) (λ m n h. h) prefix_read (λ n. refl) (λ why. refl) x y (e ∙ sym f), refl)

@@ -10,8 +10,9 @@ use mathlib.Core.Path.{◌≡◌, refl, sym, ap, ◌∙◌}
 use native.Mathlib.Nat.{mul-le-mul}
 use native.Mathlib.Omega.{arith}
 use Rattle.emit.specs.Calls.{CanPlace, between, emitted_from, placed, placed_after, room_no}
-use Rattle.evaluate.proofs.Turns.{table-room}
-use Rattle.lists.specs.Bools.{by_bool}
+use Rattle.emit.specs.declared.Emitted.{Emitted}
+use Rattle.evaluate.proofs.Turns.{not_bad, table-room}
+use Rattle.lists.specs.Bools.{by_bool, clash}
 use Rattle.lists.specs.Lists.{all}
 use Rattle.lists.specs.Vec.{vec}
 use Rattle.muxes.proofs.Splits.{tests-low, tree-fine}
@@ -22,7 +23,7 @@ use Rattle.rules.proofs.Answers.{one_hot_wide}
 use Rattle.rules.proofs.Entries.{in_use-length}
 use Rattle.rules.proofs.Lowers.{added_is, added-length, needs, nets_are}
 use Rattle.rules.proofs.Tables.{Fine}
-use Rattle.rules.specs.Answers.{added, emission, emission_table, one_hot_after, one_hot_answer, prefix_answer}
+use Rattle.rules.specs.Answers.{added, check_answer, emission, emission_table, one_hot_after, one_hot_answer, prefix_answer}
 use Rattle.rules.specs.Bounds.{cell_max, net_max, node_run, nodes_max, width_max}
 use Rattle.rules.specs.Closed.{emits, muxes, nets_of}
 use Rattle.rules.specs.Emit.{Gives, Mux, appended, bad_table, emitted, in_use, one_hot, room}
@@ -32,7 +33,10 @@ use Rattle.rules.specs.Refusals.{all_low, no_room, one_hot_table, tree_in}
 use Rattle.rules.specs.Refuse.{FORM, NET, ROOM, WIDTH, done, refusal, refused}
 use Rattle.rules.specs.Store.{is_none, tree_at, used}
 use Rattle.rules.specs.Tree.{Tree, branches, fine, leaf, node, size}
-use Rattle.tree.proofs.Handed.{Handed, handed_ends, tree_at-size, tree_handed}
+use Rattle.rules.specs.declared.refusal.Refusal.{Refusal}
+use Rattle.std.specs.Prelude.{Err, Ok, Result, is_err}
+use Rattle.tree.proofs.Handed.{Handed, handed_ends, tree_at-size, tree_handed, tree_seen, tree_unseen}
+use Rattle.tree.specs.Checked.{check_read}
 use Rattle.tree.specs.Form.{Ends}
 
 -- ---- codes in a range
@@ -163,27 +167,48 @@ module _ (g : Gives) (store : List ℕ) (root count : ℕ) (table : List ℕ) (m
   unfolding placed placed_after
   faultless e = (ap (λ (n : ℕ). emission n g (tree_in store root) count table) (sym e), ap (λ (n : ℕ). emission_table n g (tree_in store root) count table) (sym e))
 
--- ---- one-hot
+-- ---- what the check of a tree says
 
 pub found_is : (o : Option Tree) (t : Tree) → o ≡ some t → is_none o ≡ false
 found_is o t e = rw e
+
+module _ (store : List ℕ) (root : ℕ) where
+  pub tree_found : (r : Result ℕ Refusal) → check_read r ≡ check_answer store root → is_err r ≡ false → tree_at store root ≡ some (tree_in store root)
+  tree_found (Ok n) e h = tree_seen store root n (Ok n) e refl
+  tree_found (Err why) e h = absurd (clash (sym h))
+
+  pub tree_missing : (r : Result ℕ Refusal) → check_read r ≡ check_answer store root → is_err r ≡ true → is_none (tree_at store root) ≡ true
+  tree_missing (Ok n) e h = absurd (clash h)
+  tree_missing (Err why) e h = tree_unseen store root why (Err why) e refl
+
+-- ---- one-hot
 
 module _ (store : List ℕ) (root : ℕ) (outs : List ℕ) (count : ℕ) (table : List ℕ) where
   abbrev bad : Bool
   bad = is_none (tree_at store root) || (not (all is_net outs) || bad_table count table)
 
+  -- none of 12, by what the three tests gave
+  pub hot_fair : (r : Result ℕ Refusal) (n f : Bool) → check_read r ≡ check_answer store root → is_err r ≡ false → n ≡ all (between 0 (cell net_max)) outs → n ≡ true → f ≡ not (bad_table count table) → f ≡ true → bad ≡ false
+  hot_fair r n f e h p q s t = rw (found_is (tree_at store root) (tree_in store root) (tree_found store root r e h), sym (nets_in_lem outs) ∙ sym p ∙ q, not_bad (bad_table count table) (sym t ∙ s))
+
   abbrev number : ℕ
   number = refusal (one_hot_table store root outs count table)
 
-  pub hot_form : bad ≡ true → (emitted_from (refused FORM) ≡ emitted_from (one_hot_answer store root outs count table)) × (table ≡ one_hot_after store root outs count table)
+  abbrev Refuses : ℕ → Type 0
+  Refuses n = (emitted_from (refused n) ≡ emitted_from (one_hot_answer store root outs count table)) × (table ≡ one_hot_after store root outs count table)
+
+  pub hot_says : (n : ℕ) (r : Emitted) → r ≡ emitted_from (refused n) → Refuses n → (r ≡ emitted_from (one_hot_answer store root outs count table)) × (table ≡ one_hot_after store root outs count table)
+  hot_says n r e f = (e ∙ f.0, f.1)
+
+  pub hot_form : bad ≡ true → Refuses FORM
   unfolding one_hot_answer one_hot_after
   hot_form e = fault (one_hot outs) store root count table number FORM (rw e) refl
 
-  pub hot_net : bad ≡ false → all is_name outs ≡ false → (emitted_from (refused NET) ≡ emitted_from (one_hot_answer store root outs count table)) × (table ≡ one_hot_after store root outs count table)
+  pub hot_net : bad ≡ false → all is_name outs ≡ false → Refuses NET
   unfolding one_hot_answer one_hot_after
   hot_net e n = fault (one_hot outs) store root count table number NET (rw (e, n)) refl
 
-  pub hot_width : bad ≡ false → all is_name outs ≡ true → width_max < length outs → (emitted_from (refused WIDTH) ≡ emitted_from (one_hot_answer store root outs count table)) × (table ≡ one_hot_after store root outs count table)
+  pub hot_width : bad ≡ false → all is_name outs ≡ true → width_max < length outs → Refuses WIDTH
   unfolding one_hot_answer one_hot_after
   hot_width e n h = fault (one_hot outs) store root count table number WIDTH (rw (e, n, lt-ltb width_max (length outs) h)) refl
 
@@ -205,6 +230,13 @@ tree-parts store root e = tree_handed store root (tree_in store root) e
 module _ (store : List ℕ) (root : ℕ) (outs es : List ℕ) where
   abbrev unfit : Bool
   unfit = is_none (tree_at store root) || not (all is_net outs && all is_net es)
+
+  -- neither 12 nor 4, by what the tests gave
+  pub prefix_fair : (n m : Bool) → tree_at store root ≡ some (tree_in store root) → n ≡ all (between 0 (cell net_max)) outs → n ≡ true → m ≡ all (between 0 (cell net_max)) es → m ≡ true → unfit ≡ false
+  prefix_fair n m t p q s u = rw (found_is (tree_at store root) (tree_in store root) t, sym (nets_in_lem outs) ∙ sym p ∙ q, sym (nets_in_lem es) ∙ sym s ∙ u)
+
+  pub prefix_named : (n m : Bool) → n ≡ all (between (cell 0) (cell cell_max)) outs → n ≡ true → m ≡ all (between (cell 0) (cell cell_max)) es → m ≡ true → (all is_name outs && all is_name es) ≡ true
+  prefix_named n m p q s u = rw (sym (names_in outs) ∙ sym p ∙ q, sym (names_in es) ∙ sym s ∙ u)
 
   pub prefix-form : unfit ≡ true → refused FORM ≡ prefix_answer store root outs es
   unfolding prefix_answer

@@ -1,7 +1,8 @@
 // The check of a mux table handed in, which emission needs as well.
-ghost use Rattle.std.specs.Prelude.{◌/◌, min, ltb, ◌&&◌, not, ◌≡◌};
+ghost use Rattle.std.specs.Prelude.{◌/◌, ◌≤◌, length, min, ltb, ◌&&◌, not, ◌≡◌};
+ghost use Rattle.lists.specs.Runs.{runs};
 ghost use Rattle.rules.specs.Bounds.{mux_max, mux_run};
-ghost use Rattle.rules.specs.Emit.{bad_table};
+ghost use Rattle.rules.specs.Emit.{bad_table, mux_of};
 
 // Numbers of an entry: select, one arm, zero arm.
 pub const MUX_RUN: usize = 3;
@@ -13,12 +14,16 @@ pub const FIRST_MUX: usize = rules::FIRST_CELL as usize + rules::CELL_MAX as usi
 pub fn room(n: usize) -> usize
     ensures { result ≡ min (n / mux_run) mux_max }
 {
-    let e = n / MUX_RUN;
-    if e < rules::MUX_MAX {
-        e
-    } else {
-        rules::MUX_MAX
-    }
+    (n / MUX_RUN).min(rules::MUX_MAX)
+}
+
+// The entries of a table up to a count: select, one arm and zero arm of each.
+pub(crate) fn entries(table: &[u16], count: usize) -> &[[u16; MUX_RUN]]
+    requires { count ≤ length table.now / mux_run }
+    ensures { (result.now ≡ runs mux_run count table.now) × (length result.now ≡ count) }
+{
+    let (whole, _) = table.as_chunks::<MUX_RUN>();
+    &whole[..count]
 }
 
 // Whether the entries in use are there, and each operand is known before its entry.
@@ -28,31 +33,18 @@ pub fn formed(table: &[u16], count: usize) -> bool
     if room(table.len()) < count {
         return false;
     }
-    let mut k = 0;
-    while k < count {
-        let p = MUX_RUN * k;
-        if !below(table[p], table[p + 1], table[p + 2], FIRST_MUX + k) {
+    let entries = entries(table, count);
+    for (k, entry) in entries.iter().enumerate() {
+        if !below(entry, FIRST_MUX + k) {
             return false;
         }
-        k += 1;
     }
     true
 }
 
-fn below(select: u16, one: u16, zero: u16, limit: usize) -> bool
-    ensures { result ≡ (ltb select limit && (ltb one limit && ltb zero limit)) }
+// Whether each operand of an entry is below a net.
+fn below(entry: &[u16; MUX_RUN], limit: usize) -> bool
+    ensures { let x = mux_of entry.now in result ≡ (ltb x.select limit && (ltb x.one_arm limit && ltb x.zero_arm limit)) }
 {
-    if limit <= wide(select) {
-        return false;
-    }
-    if limit <= wide(one) {
-        return false;
-    }
-    wide(zero) < limit
-}
-
-fn wide(x: u16) -> usize
-    ensures { result ≡ x }
-{
-    x as usize
+    entry.iter().all(|net| usize::from(*net) < limit)
 }

@@ -1,34 +1,63 @@
--- What a leaf of a one-hot emission gives, bit by bit. Assumes nothing.
+-- Which nets the rules of a leaf name, by searching and by counting, and what a leaf of a one-hot emission gives. Assumes nothing.
 use Prim.Native.Nat.{ℕ, zero, suc, ◌+◌, ◌≤◌, ◌<◌}
-use borrow.Author.Tests.{eq-eqb, ne_eqb}
-use lib.ListN.{drop, drop_of_length-le, get_or, length, length-map, set, take}
-use lib.Seq.{drop-cons, take_all}
-use mathlib.Core.Bool.{true, false}
-use mathlib.Core.List.{List, [], ◌∷◌, map}
+use lib.Dec.{eqb}
+use lib.ListN.{drop, get_or, length, length-map, replicate, set, take}
+use mathlib.Core.Bool.{Bool, true, false, cond, ◌||◌}
+use mathlib.Core.List.{List, [], ◌∷◌, ◌++◌, map}
 use mathlib.Core.Path.{◌≡◌, refl, sym, ap, ap₂, ◌∙◌}
-use native.Mathlib.Numerals.{add-one}
+use mir.Val.{bool_byte}
 use native.Mathlib.Omega.{arith}
 use Rattle.lists.specs.Lists.{mem}
 use Rattle.lists.specs.Vec.{fill, vec}
 use Rattle.rules.specs.Bounds.{width_max}
-use Rattle.rules.specs.Emit.{one_hot}
+use Rattle.rules.specs.Emit.{Update, is_some, one_hot, update_for, updated}
 use Rattle.rules.specs.Nets.{cell}
+use Rattle.rules.specs.Prefix.{hits}
 use Rattle.rules.specs.Trits.{bit}
+use Rattle.std.proofs.lemmas.List.Recursion.{is_count_by}
+use Rattle.std.specs.List.{count_by, list_any}
 
 -- ---- a rule is searched
 
-module _ (n i : ℕ) (xs : List ℕ) (h : i < length xs) where
-  pub mem-found : cell (get_or xs i 0) ≡ n → mem n (map cell (drop i xs)) ≡ true
-  unfolding mem
-  mem-found e = rw (drop-cons xs i 0 h, eq-eqb (cell (get_or xs i 0)) n e)
-
-  pub mem_next : (cell (get_or xs i 0) ≡ n → ⊥) → mem n (map cell (drop i xs)) ≡ mem n (map cell (drop (i + 1) xs))
-  unfolding mem
-  mem_next e = rw (add-one, drop-cons xs i 0 h, ne_eqb (cell (get_or xs i 0)) n e)
-
-pub mem_none : (n i : ℕ) (xs : List ℕ) → length xs ≤ i → mem n (map cell (drop i xs)) ≡ false
+pub mem_any : (n : ℕ) (rs : List ℕ) → list_any (λ x. eqb (cell x) n) rs ≡ mem n (map cell rs)
 unfolding mem
-mem_none n i xs h = rw (drop_of_length-le xs h)
+mem_any n [] = refl
+mem_any n (r ∷ rs) = ap (λ (b : Bool). eqb (cell r) n || b) (mem_any n rs)
+
+pub mem_held : (n : ℕ) (xs : List ℕ) → list_any (λ x. eqb x n) xs ≡ mem n xs
+unfolding mem
+mem_held n [] = refl
+mem_held n (x ∷ xs) = ap (λ (b : Bool). eqb x n || b) (mem_held n xs)
+
+-- how many positions are named, and how many rules have updates, by counting
+pub hits_count : (es rs : List ℕ) → hits es rs ≡ count_by (λ e. mem e rs) es
+unfolding hits
+hits_count es rs = is_count_by (λ (l : List ℕ). hits l rs) (λ e. mem e rs) refl (λ x xs. one (mem x rs) (hits xs rs)) es
+  where
+    one : (b : Bool) (n : ℕ) → bit b + n ≡ cond b (1 + n) n
+    one true n = refl
+    one false n = omega arith
+
+pub updated_count : (us : List Update) (rs : List ℕ) → updated us (map cell rs) ≡ count_by (λ r. is_some (update_for us (cell r))) rs
+unfolding updated
+updated_count us rs = is_count_by (λ (l : List ℕ). updated us (map cell l)) (λ r. is_some (update_for us (cell r))) refl (λ x xs. one (is_some (update_for us (cell x))) (updated us (map cell xs))) rs
+  where
+    one : (b : Bool) (n : ℕ) → bit b + n ≡ cond b (1 + n) n
+    one true n = refl
+    one false n = omega arith
+
+-- ---- bits with 0 after them
+
+pub byte_bit : (b : Bool) → bool_byte b ≡ bit b
+byte_bit true = refl
+byte_bit false = refl
+
+pub pads : (n : ℕ) (l : List ℕ) → length l ≤ n → l ++ drop (length l) (replicate n 0) ≡ vec n 0 l
+unfolding vec
+pads zero [] h = refl
+pads zero (x ∷ l) h = absurd (omega arith)
+pads (suc n) [] h = ap (λ (r : List ℕ). 0 ∷ r) (pads n [] (omega arith))
+pads (suc n) (x ∷ l) h = ap (λ (r : List ℕ). x ∷ r) (pads n l (omega arith))
 
 -- ---- the bits
 
@@ -42,8 +71,3 @@ pub hot_turn : (outs rs nets : List ℕ) (i y : ℕ) → i < length outs → len
 hot_turn outs rs nets i y h w e q =
     let l : length (one_hot outs rs) ≡ length outs = length-map outs (λ (q : ℕ). bit (mem q rs)) in
     ap₂ (λ (v : List ℕ) (x : ℕ). set v i x) e (q ∙ sym (hot_get outs rs i h)) ∙ fill width_max 0 (one_hot outs rs) i (omega arith) (omega arith)
-
-pub hot_end : (outs rs nets : List ℕ) (i : ℕ) → length outs ≤ i → nets ≡ vec width_max 0 (take i (one_hot outs rs)) → nets ≡ vec width_max 0 (one_hot outs rs)
-hot_end outs rs nets i h e =
-    let l : length (one_hot outs rs) ≤ i = omega (arith, length-map outs (λ (q : ℕ). bit (mem q rs))) in
-    e ∙ ap (vec width_max 0) (take_all i (one_hot outs rs) l)

@@ -1,27 +1,23 @@
--- Some leaf of a tree is so exactly if some entry is; and what a loop counts up to two. Assumes nothing.
-use Prim.Native.Nat.{ℕ, suc, ◌+◌, ◌*◌, ◌-◌, ◌/◌, ◌≤◌, ◌<◌}
-use borrow.Author.Tests.{eq-eqb, le-leb, le-ltb, lt-ltb, ne_eqb}
-use lib.Dec.{leb, ltb}
-use lib.ListN.{drop, drop_of_length-le, get_or, length, length-drop, length-map, replicate, take}
-use lib.Seq.{drop_at, drop-cons, drop-drop, length-take-le, take_at, take-suc}
+-- Some leaf of a tree is so exactly if some entry is; and the prefix, one enable after the other. Assumes nothing.
+use Prim.Native.Nat.{ℕ, suc, ◌+◌, ◌-◌, ◌/◌, ◌≤◌, ◌<◌}
+use borrow.Author.Tests.{lt-ltb}
+use lib.Dec.{ltb}
+use lib.ListN.{drop, drop_of_length-le, get_or, length, length-append, length-map, replicate, take}
+use lib.Seq.{drop_at, drop-cons, take_at, take-suc}
 use mathlib.Core.Bool.{Bool, true, false, not, cond, ◌&&◌, ◌||◌}
 use mathlib.Core.List.{List, [], ◌∷◌, ◌++◌, append_assoc, append-nil, map}
 use mathlib.Core.Path.{◌≡◌, refl, sym, ap, ap₂, ◌∙◌}
 use native.Mathlib.Numerals.{add-one}
 use native.Mathlib.Omega.{arith}
-use Rattle.lists.specs.Bools.{and_left, and_right, by_bool}
+use Rattle.lists.specs.Bools.{and_left, and_right}
 use Rattle.lists.specs.Lists.{mem}
 use Rattle.muxes.specs.Leaves.{any_leaf, hit}
-use Rattle.muxes.specs.Sends.{span_bits}
-use Rattle.muxes.specs.declared.inner.Span.{Span}
 use Rattle.rules.proofs.Stores.{AllCells, Cells, cells_back, encode-length, fine-cells, fine-fit}
 use Rattle.rules.specs.Bounds.{node_run, rules_max}
-use Rattle.rules.specs.Emit.{Update, is_some, update_for, updated}
-use Rattle.rules.specs.Nets.{cell, number}
-use Rattle.rules.specs.Prefix.{among, crowded, disjoint_all, hits, prefix_from}
+use Rattle.rules.specs.Nets.{number}
+use Rattle.rules.specs.Prefix.{among, crowded, disjoint_all, prefix_from}
 use Rattle.rules.specs.Store.{encode, leaf_run, run_of_node}
 use Rattle.rules.specs.Tree.{Fit, Tree, fine, leaf, node, size, some_leaf}
-use Rattle.rules.specs.Trits.{bit}
 
 -- ---- entries and leaves
 
@@ -60,88 +56,24 @@ any_tree p t xs i f =
     last true = refl
     last false = refl
 
--- ---- a turn of the loop over the entries, a stop, the end
+-- ---- an entry, and those after it
 
-module _ (p : List ℕ → Bool) (xs : List ℕ) (m i : ℕ) (h : i < m) where
-  any_step : any_leaf p (m - i) (drop (node_run * i) xs) ≡ (hit p (take (node_run * i + node_run - node_run * i) (drop (node_run * i) xs)) || any_leaf p (m - (i + 1)) (drop (node_run * (i + 1)) xs))
+module _ (p : List ℕ → Bool) (xs x ys : List ℕ) (e : xs ≡ x ++ ys) (l : length x ≡ node_run) where
+  any_step : any_leaf p (length xs / node_run) xs ≡ (hit p x || any_leaf p (length ys / node_run) ys)
   unfolding any_leaf
   any_step =
-      let s : m - i ≡ suc (m - (i + 1)) = omega arith in
-      let n : node_run ≡ node_run * i + node_run - node_run * i = omega arith in
-      let z : node_run * i + node_run ≡ node_run * (i + 1) = omega arith in
-      ap (λ (k : ℕ). any_leaf p k (drop (node_run * i) xs)) s
-      ∙ ap₂ (λ (k : ℕ) (l : List ℕ). hit p (take k (drop (node_run * i) xs)) || any_leaf p (m - (i + 1)) l) n (drop-drop node_run (node_run * i) xs ∙ ap (λ (k : ℕ). drop k xs) z)
+      let n : length xs / node_run ≡ suc (length ys / node_run) = omega (arith, ap length e, length-append x ys) in
+      ap₂ (any_leaf p) n e ∙ ap₂ (λ (a b : List ℕ). hit p a || any_leaf p (length ys / node_run) b) (take_at x ys node_run l) (drop_at x ys node_run l)
 
-  pub any_stop : hit p (take (node_run * i + node_run - node_run * i) (drop (node_run * i) xs)) ≡ true → any_leaf p (m - i) (drop (node_run * i) xs) ≡ true
-  any_stop e = any_step ∙ rw e
+  pub any_stop : hit p x ≡ true → any_leaf p (length xs / node_run) xs ≡ true
+  any_stop h = any_step ∙ rw h
 
-  pub any_more : hit p (take (node_run * i + node_run - node_run * i) (drop (node_run * i) xs)) ≡ false → any_leaf p (m - i) (drop (node_run * i) xs) ≡ any_leaf p (m - (i + 1)) (drop (node_run * (i + 1)) xs)
-  any_more e = any_step ∙ rw e
+  pub any_more : hit p x ≡ false → any_leaf p (length xs / node_run) xs ≡ any_leaf p (length ys / node_run) ys
+  any_more h = any_step ∙ rw h
 
-pub any_end : (p : List ℕ → Bool) (xs : List ℕ) (m i : ℕ) → m ≤ i → any_leaf p (m - i) xs ≡ false
+pub any_end : (p : List ℕ → Bool) (xs : List ℕ) → length xs < node_run → any_leaf p (length xs / node_run) xs ≡ false
 unfolding any_leaf
-any_end p xs m i h = let s : m - i ≡ 0 = omega arith in ap (λ (k : ℕ). any_leaf p k xs) s
-
-pub any_start : (p : List ℕ → Bool) (xs : List ℕ) (m : ℕ) → any_leaf p (m - 0) (drop (node_run * 0) xs) ≡ any_leaf p m xs
-any_start p xs m = let s : m - 0 ≡ m = omega arith in ap (λ (k : ℕ). any_leaf p k xs) s
-
--- ---- an entry
-
-pub hit-branch : (p : List ℕ → Bool) (run : List ℕ) (n : ℕ) → n ≡ get_or run 0 0 → node_run ≤ n → hit p run ≡ false
-hit-branch p run n e h = let a : ltb (get_or run 0 0) node_run ≡ false = le-ltb (get_or run 0 0) node_run (omega arith) in rw a
-
-pub hit_is : (p : List ℕ → Bool) (run : List ℕ) (n : ℕ) (b : Bool) → n ≡ get_or run 0 0 → n < node_run → b ≡ p (map cell (take (n + 1 - 1) (drop 1 run))) → b ≡ hit p run
-hit_is p run n b e h q =
-    let a : ltb (get_or run 0 0) node_run ≡ true = lt-ltb (get_or run 0 0) node_run (omega arith) in
-    let k : n + 1 - 1 ≡ get_or run 0 0 = omega arith in
-    rw a (q ∙ ap (λ (j : ℕ). p (map cell (take j (drop 1 run)))) k)
-
--- ---- counting up to two
-
-module _ (es rs : List ℕ) (i : ℕ) (h : i < length es) where
-  hits_here : hits (drop i es) rs ≡ bit (mem (get_or es i 0) rs) + hits (drop (i + 1) es) rs
-  unfolding hits
-  hits_here = rw (add-one, drop-cons es i 0 h)
-
-  pub crowd_twice : mem (get_or es i 0) rs ≡ true → leb 2 (1 + hits (drop i es) rs) ≡ true
-  crowd_twice e = let n = hits_here in let m : bit (mem (get_or es i 0) rs) ≡ 1 = rw e in le-leb 2 (1 + hits (drop i es) rs) (omega arith)
-
-  pub crowd_once : mem (get_or es i 0) rs ≡ true → leb 2 (0 + hits (drop i es) rs) ≡ leb 2 (1 + hits (drop (i + 1) es) rs)
-  crowd_once e =
-      let n = hits_here in
-      let m : bit (mem (get_or es i 0) rs) ≡ 1 = rw e in
-      let k : 0 + hits (drop i es) rs ≡ 1 + hits (drop (i + 1) es) rs = omega arith in
-      ap (leb 2) k
-
-  pub crowd_not : (b : ℕ) → mem (get_or es i 0) rs ≡ false → leb 2 (b + hits (drop i es) rs) ≡ leb 2 (b + hits (drop (i + 1) es) rs)
-  crowd_not b e =
-      let n = hits_here in
-      let m : bit (mem (get_or es i 0) rs) ≡ 0 = rw e in
-      let k : hits (drop i es) rs ≡ hits (drop (i + 1) es) rs = omega arith in
-      ap (λ (j : ℕ). leb 2 (b + j)) k
-
-pub crowd_start : (n : ℕ) → leb 2 (0 + n) ≡ leb 2 n
-crowd_start n = let k : 0 + n ≡ n = omega arith in ap (leb 2) k
-
-pub crowd_end : (es rs : List ℕ) (i : ℕ) (b : Bool) → length es ≤ i → leb 2 (bit b + hits (drop i es) rs) ≡ false
-unfolding hits
-crowd_end es rs i true h = rw (drop_of_length-le es h)
-crowd_end es rs i false h = rw (drop_of_length-le es h)
-
--- ---- a search among codes
-
-module _ (n i : ℕ) (xs : List ℕ) (h : i < length xs) where
-  pub held : get_or xs i 0 ≡ n → mem n (drop i xs) ≡ true
-  unfolding mem
-  held e = rw (drop-cons xs i 0 h, eq-eqb (get_or xs i 0) n e)
-
-  pub held_next : (get_or xs i 0 ≡ n → ⊥) → mem n (drop i xs) ≡ mem n (drop (i + 1) xs)
-  unfolding mem
-  held_next e = rw (add-one, drop-cons xs i 0 h, ne_eqb (get_or xs i 0) n e)
-
-pub held_none : (n i : ℕ) (xs : List ℕ) → length xs ≤ i → mem n (drop i xs) ≡ false
-unfolding mem
-held_none n i xs h = rw (drop_of_length-le xs h)
+any_end p xs h = let s : length xs / node_run ≡ 0 = omega arith in ap (λ (k : ℕ). any_leaf p k xs) s
 
 -- ---- the prefix, one enable after the other
 
@@ -191,43 +123,3 @@ module _ (outs es : List ℕ) (t : Tree) (i : ℕ) (h : i < length es) (fine-so-
 pub from_end : (outs es : List ℕ) (t : Tree) (i : ℕ) → length es ≤ i → prefix_from outs t (take i es) (drop i es) ≡ 0
 unfolding prefix_from
 from_end outs es t i h = ap (prefix_from outs t (take i es)) (drop_of_length-le es h)
-
--- ---- two rules with updates
-
-some_found : (bs : List ℕ) (s : Span) → is_some (span_bits bs s) ≡ s.found
-some_found bs s = by_bool s.found (λ e. rw e) (λ e. rw e)
-
-module _ (us : List Update) (bs rs : List ℕ) (i n : ℕ) (s : Span) (h : i < length rs) (e : n ≡ cell (get_or rs i 0)) (q : span_bits bs s ≡ update_for us n) where
-  updated_here : updated us (map cell (drop i rs)) ≡ bit s.found + updated us (map cell (drop (i + 1) rs))
-  unfolding updated
-  updated_here =
-      let a : is_some (update_for us (cell (get_or rs i 0))) ≡ s.found = ap (λ (k : ℕ). is_some (update_for us k)) (sym e) ∙ ap is_some (sym q) ∙ some_found bs s in
-      rw (add-one, drop-cons rs i 0 h, a)
-
-  pub clash_twice : s.found ≡ true → leb 2 (1 + updated us (map cell (drop i rs))) ≡ true
-  clash_twice f = let n = updated_here in let m : bit s.found ≡ 1 = rw f in le-leb 2 (1 + updated us (map cell (drop i rs))) (omega arith)
-
-  pub clash_once : s.found ≡ true → leb 2 (0 + updated us (map cell (drop i rs))) ≡ leb 2 (1 + updated us (map cell (drop (i + 1) rs)))
-  clash_once f =
-      let n = updated_here in
-      let m : bit s.found ≡ 1 = rw f in
-      let k : 0 + updated us (map cell (drop i rs)) ≡ 1 + updated us (map cell (drop (i + 1) rs)) = omega arith in
-      ap (leb 2) k
-
-  pub clash_not : (b : ℕ) → s.found ≡ false → leb 2 (b + updated us (map cell (drop i rs))) ≡ leb 2 (b + updated us (map cell (drop (i + 1) rs)))
-  clash_not b f =
-      let n = updated_here in
-      let m : bit s.found ≡ 0 = rw f in
-      let k : updated us (map cell (drop i rs)) ≡ updated us (map cell (drop (i + 1) rs)) = omega arith in
-      ap (λ (j : ℕ). leb 2 (b + j)) k
-
-pub clash_end : (us : List Update) (rs : List ℕ) (i : ℕ) (b : Bool) → length rs ≤ i → leb 2 (bit b + updated us (map cell (drop i rs))) ≡ false
-unfolding updated
-clash_end us rs i true h = rw (drop_of_length-le rs h)
-clash_end us rs i false h = rw (drop_of_length-le rs h)
-
-pub run_long : (xs : List ℕ) (i : ℕ) → i < length xs / node_run → length (take (node_run * i + node_run - node_run * i) (drop (node_run * i) xs)) ≡ node_run
-run_long xs i h =
-    let n : node_run * i + node_run - node_run * i ≡ node_run = omega arith in
-    let l = length-drop (node_run * i) xs in
-    ap (λ (k : ℕ). length (take k (drop (node_run * i) xs))) n ∙ length-take-le node_run (drop (node_run * i) xs) (omega arith)

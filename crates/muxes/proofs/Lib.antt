@@ -1,5 +1,5 @@
 pub mod Hots
 pub mod Leaves
 pub mod Puts
-pub mod Spans
+pub mod Lents
 pub mod Splits

@@ -1,27 +1,29 @@
 -- What a branch sends, from what its arms do. Assumes nothing.
 use Prim.Native.Nat.{ℕ, ◌+◌, ◌*◌, ◌≤◌, ◌<◌}
 use lib.ListN.{length, length-append, take}
+use lib.Seq.{length-take-le}
 use mathlib.Core.Bool.{true}
 use mathlib.Core.List.{List, ◌++◌, append_assoc}
-use mathlib.Core.Path.{◌≡◌, refl, sym, ap, ap₂, ◌∙◌}
+use mathlib.Core.Path.{◌≡◌, refl, subst, sym, ap, ap₂, ◌∙◌}
 use native.Mathlib.Omega.{arith}
 use Rattle.lists.specs.Vec.{take-vec, vec}
 use Rattle.muxes.proofs.Puts.{appended_more, appended_none}
-use Rattle.muxes.specs.Sends.{Joined, Sends}
+use Rattle.muxes.specs.Sends.{CanEmit, Joined, Sends}
 use Rattle.muxes.specs.declared.inner.Sent.{Sent}
 use Rattle.rules.proofs.Added.{emits-length, nets-length}
 use Rattle.rules.proofs.Answers.{fine_of}
 use Rattle.rules.proofs.Stores.{fine-one, fine_zero}
 use Rattle.rules.proofs.Tables.{Fine}
-use Rattle.rules.specs.Bounds.{mux_run, rules_max, width_max}
+use Rattle.rules.specs.Bounds.{cell_max, mux_max, mux_run, rules_max, width_max}
 use Rattle.rules.specs.Closed.{Wide, branch, drives, emits, muxes, nets_of}
 use Rattle.rules.specs.Emit.{Gives, Mux, appended}
-use Rattle.rules.specs.Nets.{first_mux}
+use Rattle.rules.specs.Nets.{cell, first_mux}
 use Rattle.rules.specs.Tree.{Tests, Tree, fine, leaf, node}
-use Rattle.tree.proofs.Splits.{test_low}
+use Rattle.rules.specs.declared.Cell.{Cell}
+use Rattle.tree.proofs.Splits.{Split, split, test_low}
 use Rattle.tree.proofs.Tails.{leaf_few}
 use Rattle.tree.specs.Form.{Ends, RootOf}
-use Rattle.tree.specs.declared.inner.Root.TheVariants.{Leaf}
+use Rattle.tree.specs.declared.inner.Root.TheVariants.{Branch, Leaf}
 use Rattle.tree.specs.declared.inner.Root.{Root}
 
 -- ---- the tests of a well formed tree are nets up to 9,999
@@ -87,3 +89,51 @@ sends_node g w k u z o xs ys zs vs a b r h nw room p q j =
 pub muxes_node : (w u : ℕ) (z o : Tree) → muxes w (node u z o) ≡ muxes w o + muxes w z + w
 unfolding muxes
 muxes_node w u z o = refl
+
+-- ---- the recursion's calls, where a branch is read at the root
+
+module _ (g : Gives) (w k : ℕ) (xs old : List ℕ) (can : CanEmit g w xs (length old) k) (r : Root) (test : Cell) (one zer : ℕ) (roots : (t : Tree) → Ends t xs → RootOf t xs r) (is : r ≡ Branch test one zer) where
+  parts : (t : Tree) → Ends t xs → Split t xs test.0 one zer
+  parts t e = split t xs r test one zer e (roots t e) is
+
+  here : Split can.tree xs test.0 one zer
+  here = parts can.tree can.ends
+
+  needed : muxes w can.tree ≡ muxes w here.o + muxes w here.z + w
+  unfolding muxes
+  needed = ap (muxes w) here.is
+
+  pub one_long : length (take one xs) ≡ one
+  one_long = length-take-le one xs (omega (arith, here.one_in))
+
+  pub zero_long : length (take zer xs) ≡ zer
+  zero_long = length-take-le zer xs (omega (arith, here.zero_in))
+
+  pub can_one : (length (take one xs) < length xs) × CanEmit g w (take one xs) (length old) k
+  can_one = (omega (arith, one_long, here.one_in), record { tree = here.o; ends = here.one_ends; wide = can.wide; narrow = can.narrow; fits = omega (arith, needed, can.fits); few = omega (arith, needed, can.few) })
+
+  -- after the one arm, which left the table as long as it was
+  module _ (ys : List ℕ) (a : Sent) (la : length ys ≡ length old) (ea : (t : Tree) → Ends t (take one xs) → Sends g w k t old ys a) where
+    used : a.used ≡ k + muxes w here.o
+    used = (ea here.o here.one_ends).used_is
+
+    pub can_zero : (length (take zer xs) < length xs) × CanEmit g w (take zer xs) (length ys) a.used
+    can_zero = (omega (arith, zero_long, here.zero_in), record { tree = here.z; ends = here.zero_ends; wide = can.wide; narrow = can.narrow; fits = omega (arith, needed, used, can.fits, la); few = omega (arith, needed, used, can.few) })
+
+    -- after the zero arm
+    module _ (zs : List ℕ) (b : Sent) (lb : length zs ≡ length ys) (eb : (t : Tree) → Ends t (take zer xs) → Sends g w a.used t ys zs b) where
+      used_then : b.used ≡ a.used + muxes w here.z
+      used_then = (eb here.z here.zero_ends).used_is
+
+      pub can_join : (w ≤ width_max) × (mux_run * (b.used + w) ≤ length zs) × (b.used + w ≤ mux_max) × (test.0 ≤ cell_max)
+      can_join = (can.narrow, omega (arith, needed, used, used_then, can.fits, la, lb), omega (arith, needed, used, used_then, can.few), omega (arith, here.low))
+
+      -- and after the branch's own muxes
+      pub sends_branch : (vs : List ℕ) (s : Sent) → Joined (cell test.0) a.nets b.nets w b.used zs vs s → (t : Tree) → Ends t xs → Sends g w k t old vs s
+      sends_branch vs s j t e =
+          let h = parts t e in
+          let u = (ea h.o h.one_ends).used_is in
+          let v = (eb h.z h.zero_ends).used_is in
+          let m = muxes_node w (cell test.0) h.z h.o in
+          let f : Fine g w (node (cell test.0) h.z h.o) = subst (Fine g w) h.is (tree-fine g w can.wide t e.good) in
+          rw h.is (sends_node g w k (cell test.0) h.z h.o old ys zs vs a b s f can.narrow (omega (arith, needed, m, u, v, used, used_then, can.fits)) (ea h.o h.one_ends) (eb h.z h.zero_ends) j)

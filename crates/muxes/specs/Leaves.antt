@@ -1,14 +1,7 @@
 -- What a loop over a tree's entries finds. Assumes nothing: these are definitions.
-use Rattle.std.specs.Prelude.{ℕ, zero, suc, ltb, drop, get_or, take, Bool, true, false, ◌&&◌, ◌||◌, List, map}
+use Rattle.std.specs.Prelude.{ℕ, zero, suc, ltb, drop, get_or, take, Bool, false, ◌&&◌, ◌||◌, List, map}
 use Rattle.rules.specs.Bounds.{node_run}
-use Rattle.rules.specs.Emit.{overlap, updates_of}
 use Rattle.rules.specs.Nets.{cell}
-use Rattle.rules.specs.Prefix.{crowded}
-
--- two positions of a list, or two rules with updates
-abbrev pub twice : Bool → List ℕ → List ℕ → List ℕ → List ℕ → Bool
-twice true ns ws bs rs = crowded ns rs
-twice false ns ws bs rs = overlap (updates_of ns ws bs) rs
 
 -- an entry is a leaf, and its rules are so
 abbrev pub hit : (List ℕ → Bool) → List ℕ → Bool

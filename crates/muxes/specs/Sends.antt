@@ -1,19 +1,12 @@
 -- What the recursion of emission is asked and does, and what a leaf gives. Assumes nothing: these are definitions.
-use Rattle.std.specs.Prelude.{ℕ, ◌+◌, ◌*◌, ◌≤◌, drop, take, Bool, true, false, cond, List, ◌≡◌}
-use Rattle.std.proofs.Math.Option.{Option, none, some}
+use Rattle.std.specs.Prelude.{ℕ, ◌+◌, ◌*◌, ◌≤◌, take, List, ◌≡◌}
 use Rattle.lists.specs.Vec.{vec}
 use Rattle.muxes.specs.declared.inner.Sent.{Sent}
-use Rattle.muxes.specs.declared.inner.Span.{Span}
 use Rattle.rules.specs.Bounds.{mux_max, mux_run, width_max}
 use Rattle.rules.specs.Closed.{Wide, branch, drives, emits, muxes, nets_of}
-use Rattle.rules.specs.Emit.{Gives, appended, disjoint, one_hot, updates_of}
+use Rattle.rules.specs.Emit.{Gives, appended}
 use Rattle.rules.specs.Tree.{Tree}
 use Rattle.tree.specs.Form.{Ends}
-
--- what a leaf gives: the bits of the outputs, or the bits of an update, else the default
-abbrev pub gives : Bool → List ℕ → List ℕ → List ℕ → List ℕ → Gives
-gives true ns ws bs d = one_hot d
-gives false ns ws bs d = disjoint (updates_of ns ws bs) d
 
 -- a tree ends here, its leaves give w nets each, and there is room for its muxes from the k-th entry on
 pub record CanEmit (g : Gives) (w : ℕ) (xs : List ℕ) (long k : ℕ) : Type 0 where
@@ -35,7 +28,3 @@ pub record Joined (t : ℕ) (a b : List ℕ) (w k : ℕ) (xs ys : List ℕ) (r :
   pub nets_are : r.nets ≡ vec width_max 0 (drives k w)
   pub used_is : r.used ≡ k + w
   pub put : ys ≡ appended k (branch t (take w a) (take w b)) xs
-
--- the bits of an update, where there is one
-abbrev pub span_bits : List ℕ → Span → Option (List ℕ)
-span_bits bs s = cond s.found (some (take s.width (drop s.at bs))) none

@@ -1,21 +1,22 @@
 // The recursion of emission, one for both calls, and what a leaf gives; the search for leaves that overlap, and the prefix.
-ghost use Rattle.std.specs.Prelude.{ℕ, ◌+◌, ◌*◌, ◌/◌, ◌<◌, ◌≤◌, min, eqb, get_or, length, cond, true, List, [], ◌∷◌, map, ◌≡◌};
-ghost use Rattle.lists.specs.Lists.{mem};
+ghost use Rattle.std.specs.Prelude.{ℕ, ◌+◌, ◌*◌, ◌/◌, ◌≤◌, ◌<◌, length, List, [], ◌∷◌, Bool, true, map, ◌≡◌, MatchOption};
+ghost use Rattle.lists.specs.Lists.{all, mem};
 ghost use Rattle.lists.specs.Vec.{vec};
-ghost use Rattle.muxes.specs.Leaves.{any_leaf, hit, twice};
-ghost use Rattle.muxes.specs.Sends.{CanEmit, Joined, Sends, gives, span_bits};
+ghost use Rattle.muxes.specs.Leaves.{any_leaf, hit};
+ghost use Rattle.muxes.specs.Sends.{CanEmit, Joined, Sends};
+ghost use Rattle.muxes.specs.Lent.{Tests, lent, found, update};
+ghost use Rattle.rules.specs.Emit as Emit;
 ghost use Rattle.rules.specs.Bounds.{cell_max, mux_max, mux_run, node_run, rules_max, width_max};
 ghost use Rattle.rules.specs.Closed.{Wide};
-ghost use Rattle.rules.specs.Emit.{appended, disjoint, get_else, one_hot, overlap, update_for, updates_of};
+ghost use Rattle.rules.specs.Emit.{Gives, appended, disjoint, get_else, is_some, one_hot, overlap, update_for};
 ghost use Rattle.rules.specs.Nets.{cell, first_mux};
 ghost use Rattle.rules.specs.Prefix.{crowded, prefix};
 ghost use Rattle.rules.specs.Store.{encode};
 ghost use Rattle.rules.specs.Tree.{Tree, fine, leaf};
-ghost use Rattle.rules.specs.Trits.{bit};
 ghost use Rattle.tree.specs.Form.{Ends};
 
 use rules::Cell;
-use tree::inner::Root;
+use tree::inner::{NODE_RUN, Root};
 
 // What a tree has sent: the nets of its value, and the entries then in use.
 #[derive(Clone, Copy)]
@@ -33,6 +34,7 @@ fn put_mux(table: &mut [u16], k: usize, select: u16, one: u16, zero: u16) -> u16
     table[p] = select;
     table[p + 1] = one;
     table[p + 2] = zero;
+    // It fits: the net of the last entry that a table may have is below 2^16.
     (evaluate::inner::FIRST_MUX + k) as u16
 }
 
@@ -50,10 +52,9 @@ fn join(
 {
     let select = rules::FIRST_CELL + test.0;
     let mut nets = [0; rules::WIDTH_MAX];
-    let mut i = 0;
-    while i < width {
+    // The bit's index is one in both arms, in the nets, and from entry k on.
+    for i in 0..width {
         nets[i] = put_mux(table, k + i, select, one[i], zero[i]);
-        i += 1;
     }
     Sent {
         nets,
@@ -61,297 +62,264 @@ fn join(
     }
 }
 
+// The code of a cell's net, which may be over a u16.
+fn code(rule: u16) -> usize
+    ensures { result ≡ cell rule }
+{
+    usize::from(rules::FIRST_CELL) + usize::from(rule)
+}
+
 // Whether the rules of a leaf, which are cell numbers, name a net.
-pub fn names(rules: &[u16], net: u16) -> bool
+fn names(rules: &[u16], net: u16) -> bool
     ensures { result ≡ mem net (map cell rules.now) }
 {
-    let mut i = 0;
-    while i < rules.len() {
-        if cell_net(rules[i]) == wide(net) {
-            return true;
-        }
-        i += 1;
-    }
-    false
+    rules.iter().any(|rule| code(*rule) == usize::from(net))
 }
 
-// The code of a cell's net, which may be over a u16.
-fn cell_net(x: u16) -> usize
-    ensures { result ≡ cell x }
-{
-    3 + wide(x)
-}
+// ---- updates
 
-fn wide(x: u16) -> usize
-    ensures { result ≡ x }
-{
-    x as usize
-}
-
-// One-hot: bit i is 1 where the leaf names output i.
-fn hot_nets(rules: &[u16], outputs: &[u16]) -> [u16; rules::WIDTH_MAX]
-    requires { length outputs.now ≤ width_max }
-    ensures { result ≡ vec width_max 0 (one_hot outputs.now (map cell rules.now)) }
-{
-    let mut nets = [0; rules::WIDTH_MAX];
-    let mut i = 0;
-    while i < outputs.len() {
-        nets[i] = bit_of(names(rules, outputs[i]));
-        i += 1;
-    }
-    nets
-}
-
-fn bit_of(b: bool) -> u16
-    ensures { result ≡ bit b }
-{
-    if b { 1 } else { 0 }
-}
-
-// Where the bits of an update stand, if there is one.
+// The update of one net.
 #[derive(Clone, Copy)]
-struct Span {
-    found: bool,
-    at: usize,
-    width: usize,
+pub struct Update<'a> {
+    pub target: u16,
+    pub bits: &'a [u16],
 }
 
-// The last update of a net.
-fn update_for(net: usize, nets: &[u16], widths: &[usize], bits: &[u16]) -> Span
-    ensures { (span_bits bits.now result ≡ update_for (updates_of nets.now widths.now bits.now) net) × (result.at + result.width ≤ length bits.now) }
-{
-    let mut span = Span {
-        found: false,
-        at: 0,
-        width: 0,
-    };
-    let mut p = 0;
-    let mut i = 0;
-    while i < nets.len() {
-        let w = cut_width(widths, i, bits.len() - p);
-        span = later(span, nets[i], net, p, w);
-        p += w;
-        i += 1;
-    }
-    span
+// Updates as they are lent: their nets, their widths, and their bits end to end.
+#[derive(Clone, Copy)]
+pub struct Updates<'a> {
+    pub nets: &'a [u16],
+    pub widths: &'a [usize],
+    pub bits: &'a [u16],
 }
 
-// An update's width is cut to the bits that are left, and 0 where none is given.
-pub fn cut_width(widths: &[usize], i: usize, rest: usize) -> usize
-    ensures { result ≡ min (get_or widths.now i 0) rest }
-{
-    if widths.len() <= i {
-        return 0;
-    }
-    let w = widths[i];
-    if w < rest { w } else { rest }
-}
-
-// A later update for the same net replaces the earlier.
-fn later(old: Span, target: u16, net: usize, at: usize, width: usize) -> Span
-    ensures { result ≡ cond (eqb target net) (record { found = true; at = at; width = width }) old }
-{
-    if wide(target) == net {
-        return Span {
-            found: true,
-            at,
-            width,
+impl<'a> Updates<'a> {
+    // The first update, and the others. A width is cut to the bits that are left, and 0 where none is given.
+    fn split_first(self) -> Option<(Update<'a>, Updates<'a>)>
+        ensures { MatchOption result (lent self.entry ≡ []) (λ p. lent self.entry ≡ update p.0 ∷ lent p.1) }
+    {
+        let (net, nets) = self.nets.split_first()?;
+        let (width, widths) = match self.widths.split_first() {
+            Some((width, widths)) => (*width, widths),
+            None => (0, self.widths),
         };
+        let (bits, rest) = self.bits.split_at(width.min(self.bits.len()));
+        let first = Update { target: *net, bits };
+        let others = Updates {
+            nets,
+            widths,
+            bits: rest,
+        };
+        Some((first, others))
     }
-    old
-}
 
-// The update of the first rule that has one.
-fn rule_update(rules: &[u16], nets: &[u16], widths: &[usize], bits: &[u16]) -> Span
-    ensures { ((d : List ℕ) → get_else (span_bits bits.now result) d ≡ disjoint (updates_of nets.now widths.now bits.now) d (map cell rules.now)) × (result.at + result.width ≤ length bits.now) }
-{
-    let mut i = 0;
-    while i < rules.len() {
-        let span = update_for(cell_net(rules[i]), nets, widths, bits);
-        if span.found {
-            return span;
+    // Whether each update passes a test.
+    pub fn all<F: Fn(Update<'a>) -> bool>(self, test: F) -> bool
+        requires { F.IsAlwaysCallable test }
+        ensures { (p : Emit.Update → Bool) → Tests (F.post test) p → result ≡ all p (lent self.entry) }
+    {
+        let mut rest = self;
+        while let Some((first, others)) = rest.split_first() {
+            if !test(first) {
+                return false;
+            }
+            rest = others;
         }
-        i += 1;
+        true
     }
-    Span {
-        found: false,
-        at: 0,
-        width: 0,
+
+    // The bits of the last update of a net: a later one replaces the earlier.
+    fn last_for(self, net: usize) -> Option<&'a [u16]>
+        ensures { found result ≡ update_for (lent self.entry) net }
+    {
+        let mut last = None;
+        let mut rest = self;
+        while let Some((first, others)) = rest.split_first() {
+            if usize::from(first.target) == net {
+                last = Some(first.bits);
+            }
+            rest = others;
+        }
+        last
+    }
+
+    // Whether a rule has an update.
+    fn has(self, rule: u16) -> bool
+        ensures { result ≡ is_some (update_for (lent self.entry) (cell rule)) }
+    {
+        self.last_for(code(rule)).is_some()
+    }
+
+    // The bits of the update of the first rule that has one.
+    fn first_of(self, rules: &[u16]) -> Option<&'a [u16]>
+        ensures { (d : List ℕ) → get_else (found result) d ≡ disjoint (lent self.entry) d (map cell rules.now) }
+    {
+        for rule in rules {
+            let bits = self.last_for(code(*rule));
+            if bits.is_some() {
+                return bits;
+            }
+        }
+        None
     }
 }
 
-// Disjoint: the bits of the update, else the default.
-fn updated(
-    rules: &[u16],
-    nets: &[u16],
-    widths: &[usize],
-    bits: &[u16],
-    default: &[u16],
-) -> [u16; rules::WIDTH_MAX]
-    requires { Wide (disjoint (updates_of nets.now widths.now bits.now) default.now) (length default.now) × (length default.now ≤ width_max) }
-    ensures { result ≡ vec width_max 0 (disjoint (updates_of nets.now widths.now bits.now) default.now (map cell rules.now)) }
-{
-    let span = rule_update(rules, nets, widths, bits);
-    if span.found {
-        let at = span.at;
-        let e = at + span.width;
-        return copy(&bits[at..e]);
-    }
-    copy(default)
+// ---- what a leaf gives
+
+// The value of a leaf, as nets, from its rules.
+pub trait LeafValue {
+    ghost gives: { Self → Gives };
+
+    ghost bits: { Self → ℕ };
+
+    // How many nets.
+    fn width(&self) -> usize
+        ensures { result ≡ bits self.now };
+
+    // The nets, with 0 after them.
+    fn nets(&self, rules: &[u16]) -> [u16; rules::WIDTH_MAX]
+        requires { Wide (gives self.now) (bits self.now) × (bits self.now ≤ width_max) }
+        ensures { result ≡ vec width_max 0 (gives self.now (map cell rules.now)) };
 }
 
-fn copy(bits: &[u16]) -> [u16; rules::WIDTH_MAX]
+// Bit i is 1 where the leaf names output i.
+#[derive(Clone, Copy)]
+pub struct OneHot<'a> {
+    pub outputs: &'a [u16],
+}
+
+impl<'a> LeafValue for OneHot<'a> {
+    ghost gives = { λ s. one_hot s.outputs.now };
+
+    ghost bits = { λ s. length s.outputs.now };
+
+    fn width(&self) -> usize {
+        self.outputs.len()
+    }
+
+    fn nets(&self, rules: &[u16]) -> [u16; rules::WIDTH_MAX] {
+        let mut nets = [0; rules::WIDTH_MAX];
+        for (i, output) in self.outputs.iter().enumerate() {
+            nets[i] = u16::from(names(rules, *output));
+        }
+        nets
+    }
+}
+
+// The bits of the update of the leaf's rule that has one, else the default.
+#[derive(Clone, Copy)]
+pub struct Disjoint<'a> {
+    pub updates: Updates<'a>,
+    pub default: &'a [u16],
+}
+
+impl<'a> LeafValue for Disjoint<'a> {
+    ghost gives = { λ s. disjoint (lent s.updates) s.default.now };
+
+    ghost bits = { λ s. length s.default.now };
+
+    fn width(&self) -> usize {
+        self.default.len()
+    }
+
+    fn nets(&self, rules: &[u16]) -> [u16; rules::WIDTH_MAX] {
+        padded(self.updates.first_of(rules).unwrap_or(self.default))
+    }
+}
+
+// Bits with 0 after them.
+fn padded(bits: &[u16]) -> [u16; rules::WIDTH_MAX]
     requires { length bits.now ≤ width_max }
     ensures { result ≡ vec width_max 0 bits.now }
 {
     let mut nets = [0; rules::WIDTH_MAX];
-    let mut i = 0;
-    while i < bits.len() {
-        nets[i] = bits[i];
-        i += 1;
-    }
+    nets[..bits.len()].copy_from_slice(bits);
     nets
 }
 
-// What a leaf of n rules gives; `value` has the outputs of a one-hot, or the default.
-fn leaf(
-    store: &[u16],
-    n: usize,
-    hot: bool,
-    nets: &[u16],
-    widths: &[usize],
-    bits: &[u16],
-    value: &[u16],
-) -> [u16; rules::WIDTH_MAX]
-    requires { (node_run ≤ length store.now) × (n ≤ rules_max) × Wide (gives hot nets.now widths.now bits.now value.now) (length value.now) × (length value.now ≤ width_max) }
-    ensures { (rs : List ℕ) → Ends (leaf rs) store.now → n ≡ length rs → result ≡ vec width_max 0 (gives hot nets.now widths.now bits.now value.now rs) }
+// The value of the leaf of n rules in which a store ends.
+fn last_leaf<L: LeafValue>(store: &[u16], n: usize, leaves: &L) -> [u16; rules::WIDTH_MAX]
+    requires { (node_run ≤ length store.now) × (n ≤ rules_max) × Wide (L.gives leaves.now) (L.bits leaves.now) × (L.bits leaves.now ≤ width_max) }
+    ensures { (rs : List ℕ) → Ends (leaf rs) store.now → n ≡ length rs → result ≡ vec width_max 0 (L.gives leaves.now rs) }
 {
-    let s = store.len() - tree::inner::NODE_RUN + 1;
-    let e = s + n;
-    if hot {
-        return hot_nets(&store[s..e], value);
-    }
-    updated(&store[s..e], nets, widths, bits, value)
+    let s = store.len() - NODE_RUN + 1;
+    leaves.nets(&store[s..s + n])
 }
 
 // The tree in which the store ends, into the table from entry k on: the one arm, the zero arm, this branch's muxes.
-pub fn emit(
-    store: &[u16],
-    hot: bool,
-    nets: &[u16],
-    widths: &[usize],
-    bits: &[u16],
-    value: &[u16],
-    table: &mut [u16],
-    k: usize,
-) -> Sent
-    requires { CanEmit (gives hot nets.now widths.now bits.now value.now) (length value.now) store.now (length table.old) k }
-    ensures { (t : Tree) → Ends t store.now → Sends (gives hot nets.now widths.now bits.now value.now) (length value.now) k t table.old table.new result }
+pub fn emit<L: LeafValue>(store: &[u16], leaves: &L, table: &mut [u16], k: usize) -> Sent
+    requires { CanEmit (L.gives leaves.now) (L.bits leaves.now) store.now (length table.old) k }
+    ensures { (t : Tree) → Ends t store.now → Sends (L.gives leaves.now) (L.bits leaves.now) k t table.old table.new result }
 {
     match tree::inner::root_of(store) {
         Root::Leaf(n) => {
-            let x = leaf(store, n, hot, nets, widths, bits, value);
-            Sent { nets: x, used: k }
+            let nets = last_leaf(store, n, leaves);
+            Sent { nets, used: k }
         }
         Root::Branch { test, one, zero } => {
-            let a = emit(&store[..one], hot, nets, widths, bits, value, table, k);
-            let u = a.used;
-            let b = emit(&store[..zero], hot, nets, widths, bits, value, table, u);
-            let v = b.used;
-            let x = a.nets;
-            let y = b.nets;
-            join(table, test, x, y, value.len(), v)
+            let a = emit(&store[..one], leaves, table, k);
+            let b = emit(&store[..zero], leaves, table, a.used);
+            join(table, test, a.nets, b.nets, leaves.width(), b.used)
         }
     }
 }
 
-// Whether a net is among these.
-fn holds(nets: &[u16], net: u16) -> bool
-    ensures { result ≡ mem net nets.now }
+// ---- leaves that are sought
+
+// A test of a leaf, from its rules.
+pub trait LeafTest {
+    ghost test: { Self → List ℕ → Bool };
+
+    fn meets(&self, rules: &[u16]) -> bool
+        ensures { result ≡ test self.now (map cell rules.now) };
+}
+
+// The leaf names the nets of two positions.
+#[derive(Clone, Copy)]
+pub struct Crowded<'a> {
+    pub nets: &'a [u16],
+}
+
+impl<'a> LeafTest for Crowded<'a> {
+    ghost test = { λ s. crowded s.nets.now };
+
+    fn meets(&self, rules: &[u16]) -> bool {
+        2 <= self.nets.iter().filter(|net| names(rules, **net)).count()
+    }
+}
+
+// Two rules of the leaf have updates.
+#[derive(Clone, Copy)]
+pub struct Overlapping<'a> {
+    pub updates: Updates<'a>,
+}
+
+impl<'a> LeafTest for Overlapping<'a> {
+    ghost test = { λ s. overlap (lent s.updates) };
+
+    fn meets(&self, rules: &[u16]) -> bool {
+        let updates = self.updates;
+        2 <= rules.iter().filter(|rule| updates.has(**rule)).count()
+    }
+}
+
+// Whether an entry is a leaf that meets the test.
+fn entry_meets<T: LeafTest>(entry: &[u16], test: &T) -> bool
+    requires { length entry.now ≡ node_run }
+    ensures { result ≡ hit (T.test test.now) entry.now }
 {
-    let mut i = 0;
-    while i < nets.len() {
-        if nets[i] == net {
+    let n = usize::from(entry[0]);
+    n < NODE_RUN && test.meets(&entry[1..n + 1])
+}
+
+// Whether some leaf of the tree meets the test: a loop over the entries, so that no path is walked.
+pub fn some_leaf<T: LeafTest>(store: &[u16], test: &T) -> bool
+    ensures { result ≡ any_leaf (T.test test.now) (length store.now / node_run) store.now }
+{
+    for entry in store.chunks_exact(NODE_RUN) {
+        if entry_meets(entry, test) {
             return true;
         }
-        i += 1;
-    }
-    false
-}
-
-// Whether a leaf names the nets of two positions.
-fn crowd(rules: &[u16], nets: &[u16]) -> bool
-    ensures { result ≡ crowded nets.now (map cell rules.now) }
-{
-    let mut seen = false;
-    let mut i = 0;
-    while i < nets.len() {
-        let net = nets[i];
-        i += 1;
-        if names(rules, net) {
-            if seen {
-                return true;
-            }
-            seen = true;
-        }
-    }
-    false
-}
-
-// Whether two rules of a leaf have updates.
-fn clash(rules: &[u16], nets: &[u16], widths: &[usize], bits: &[u16]) -> bool
-    ensures { result ≡ overlap (updates_of nets.now widths.now bits.now) (map cell rules.now) }
-{
-    let mut seen = false;
-    let mut i = 0;
-    while i < rules.len() {
-        let span = update_for(cell_net(rules[i]), nets, widths, bits);
-        i += 1;
-        if span.found {
-            if seen {
-                return true;
-            }
-            seen = true;
-        }
-    }
-    false
-}
-
-// Whether an entry is a leaf that names two positions, or has two updates.
-fn meets(run: &[u16], positions: bool, nets: &[u16], widths: &[usize], bits: &[u16]) -> bool
-    requires { length run.now ≡ node_run }
-    ensures { result ≡ hit (twice positions nets.now widths.now bits.now) run.now }
-{
-    let n = wide(run[0]);
-    if tree::inner::NODE_RUN <= n {
-        return false;
-    }
-    let e = n + 1;
-    if positions {
-        return crowd(&run[1..e], nets);
-    }
-    clash(&run[1..e], nets, widths, bits)
-}
-
-// Whether some leaf of the tree is so: a loop over the entries, so that no path is walked.
-pub fn some_leaf(
-    store: &[u16],
-    positions: bool,
-    nets: &[u16],
-    widths: &[usize],
-    bits: &[u16],
-) -> bool
-    ensures { result ≡ any_leaf (twice positions nets.now widths.now bits.now) (length store.now / node_run) store.now }
-{
-    let m = store.len() / tree::inner::NODE_RUN;
-    let mut i = 0;
-    while i < m {
-        let p = tree::inner::NODE_RUN * i;
-        let e = p + tree::inner::NODE_RUN;
-        if meets(&store[p..e], positions, nets, widths, bits) {
-            return true;
-        }
-        i += 1;
     }
     false
 }
@@ -360,17 +328,11 @@ pub fn some_leaf(
 pub fn longest(store: &[u16], outputs: &[u16], enables: &[u16]) -> usize
     ensures { (t : Tree) → store.now ≡ encode t → fine t ≡ true → result ≡ prefix outputs.now t enables.now }
 {
-    let none = [0; 1];
-    let mut i = 0;
-    while i < enables.len() {
-        if !holds(outputs, enables[i]) {
+    for (i, enable) in enables.iter().enumerate() {
+        let nets = &enables[..i + 1];
+        if !outputs.contains(enable) || some_leaf(store, &Crowded { nets }) {
             return i;
         }
-        let e = i + 1;
-        if some_leaf(store, true, &enables[..e], &none, outputs) {
-            return i;
-        }
-        i += 1;
     }
-    i
+    enables.len()
 }

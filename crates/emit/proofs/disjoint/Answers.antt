@@ -1,164 +1,79 @@
-use Prim.Native.Nat.{◌+◌, ◌*◌}
-use borrow.Author.Tests.{not-false, not-true}
-use lib.Seq.{length-take-le}
-use mathlib.Core.Option.{some}
-use mathlib.Core.Path.{◌≡◌, ap, sym, ◌∙◌}
-use native.Mathlib.Omega.{arith}
-use Rattle.emit.proofs.Places.{tree-parts}
-use Rattle.emit.proofs.Updates.{Formed, Named, Sized, disjoint_can, disjoint-place, form_default, form-table, form-tree, form-updates, is_formed, is_named, net_default, net-updates, overlaps, width_default, width-updates}
+use Rattle.emit.proofs.Places.{tree-parts, tree_found, tree_missing}
+use Rattle.emit.proofs.Updates.{disjoint_can, disjoint-place, form_default, form-table, form-tree, form-updates, named_too, net_default, net-updates, overlaps, says, sized_too, tested, width_default, width-updates}
 use Rattle.emit.specs.Calls.{emitted_from}
-use Rattle.evaluate.proofs.Turns.{is_bad, not_bad}
-use Rattle.rules.specs.Bounds.{node_run}
-use Rattle.rules.specs.Emit.{bad_table}
-use Rattle.rules.specs.Refusals.{tree_in}
-use Rattle.rules.specs.Store.{tree_at}
-use Rattle.tree.proofs.Handed.{tree_seen, tree_unseen}
-use Rattle.std.proofs.Common.{not}
+use Rattle.evaluate.proofs.Turns.{is_bad}
+use Rattle.rules.specs.Refuse.{FORM, NET, WIDTH}
+use Rattle.std.proofs.Common.{ap, arith, sym, ◌∙◌}
+use Rattle.emit.proofs.disjoint.Goals.{then-is_err-via-then-is_err, then-is_err-via-else-is_err+then-not-updates_have, then-is_err-via-else-is_err+else-not-updates_have+then-not-have, then-is_err-via-else-is_err+else-not-updates_have+else-not-have+then-not-formed}
+use Rattle.emit.proofs.disjoint.Goals.{then-not-updates_have-2-via-then-not-updates_have-2, then-not-updates_have-2-via-else-not-updates_have-2+then-not-have-2}
+use Rattle.emit.proofs.disjoint.Goals.{then-default-gt-WIDTH_MAX-via-then-default-gt-WIDTH_MAX, then-default-gt-WIDTH_MAX-via-else-default-gt-WIDTH_MAX+then-not-updates_wide}
 use Rattle.emit.proofs.disjoint.Goals as goal
 
-pub returns-in_default : goal.returns-in_default
-returns-in_default c =
+pub returns-then-is_err : goal.returns-then-is_err
+returns-then-is_err c =
     let a = c.args in
-    let u = tree_unseen a.store.now a.root.0 c.in_default.field-0 c.check.result c.check.ensures c.in_default.is in
-    let f = form-tree a.store.now a.root.0 a.nets.now a.widths.now a.bits.now a.default.now a.count a.table.now u in
-    (c.refuse.ensures ∙ f.0, f.1)
+    let seen = tree_found a.store.now a.root.0 c.check.result c.check.ensures in
+    let no = sym c.is_err.ensures.value in
+    says a.store.now a.root.0 a.nets.now a.widths.now a.bits.now a.default.now a.count a.table.now FORM _ c.refuse.ensures (elim c.then-is_err.branch [
+      | then-is_err-via-then-is_err w ↦ form-tree a.store.now a.root.0 a.nets.now a.widths.now a.bits.now a.default.now a.count a.table.now (tree_missing a.store.now a.root.0 c.check.result c.check.ensures (no ∙ w.if-is_err.true))
+      | then-is_err-via-else-is_err+then-not-updates_have w ↦ form-updates a.store.now a.root.0 a.nets.now a.widths.now a.bits.now a.default.now a.count a.table.now (seen (no ∙ w.if-is_err.false)) (sym w.updates_have.ensures ∙ w.if-not-updates_have.true)
+      | then-is_err-via-else-is_err+else-not-updates_have+then-not-have w ↦
+          form_default a.store.now a.root.0 a.nets.now a.widths.now a.bits.now a.default.now a.count a.table.now (seen (no ∙ w.if-is_err.false)) (sym w.updates_have.ensures ∙ w.if-not-updates_have.false) (sym w.have.ensures ∙ w.if-not-have.true)
+      | then-is_err-via-else-is_err+else-not-updates_have+else-not-have+then-not-formed w ↦
+          form-table a.store.now a.root.0 a.nets.now a.widths.now a.bits.now a.default.now a.count a.table.now (seen (no ∙ w.if-is_err.false)) (sym w.updates_have.ensures ∙ w.if-not-updates_have.false) (sym w.have.ensures ∙ w.if-not-have.false) (is_bad _ (sym w.if-not-formed.true ∙ w.formed.ensures))
+    ])
 
-pub returns-then-not-updates_between : goal.returns-then-not-updates_between
-returns-then-not-updates_between c =
-    let seen : tree_at c.args.store.now c.args.root.0 ≡ some (tree_in c.args.store.now c.args.root.0) = tree_seen c.args.store.now c.args.root.0 c.in-Tree.field-0 c.check.result c.check.ensures c.in-Tree.is in
+pub returns-then-not-updates_have-2 : goal.returns-then-not-updates_have-2
+returns-then-not-updates_have-2 c =
     let a = c.args in
-    let f = form-updates a.store.now a.root.0 a.nets.now a.widths.now a.bits.now a.default.now a.count a.table.now (seen) (sym c.updates_between.ensures ∙ not-true _ (ap not c.if-not-updates_between.true)) in
-    (c.refuse-then-not-updates_between.ensures ∙ f.0, f.1)
-
-pub returns-then-not-all_between : goal.returns-then-not-all_between
-returns-then-not-all_between c =
-    let seen : tree_at c.args.store.now c.args.root.0 ≡ some (tree_in c.args.store.now c.args.root.0) = tree_seen c.args.store.now c.args.root.0 c.in-Tree.field-0 c.check.result c.check.ensures c.in-Tree.is in
-    let a = c.args in
-    let f = form_default a.store.now a.root.0 a.nets.now a.widths.now a.bits.now a.default.now a.count a.table.now (seen) (sym c.updates_between.ensures ∙ not-false _ (ap not c.if-not-updates_between.false)) (sym c.all_between.ensures ∙ not-true _ (ap not c.if-not-all_between.true)) in
-    (c.refuse-then-not-all_between.ensures ∙ f.0, f.1)
-
-pub returns-then-not-formed : goal.returns-then-not-formed
-returns-then-not-formed c =
-    let seen : tree_at c.args.store.now c.args.root.0 ≡ some (tree_in c.args.store.now c.args.root.0) = tree_seen c.args.store.now c.args.root.0 c.in-Tree.field-0 c.check.result c.check.ensures c.in-Tree.is in
-    let a = c.args in
-    let b = is_bad (bad_table a.count a.table.now) (sym (not-true _ (ap not c.if-not-formed.true)) ∙ c.formed.ensures) in
-    let f = form-table a.store.now a.root.0 a.nets.now a.widths.now a.bits.now a.default.now a.count a.table.now (seen) (sym c.updates_between.ensures ∙ not-false _ (ap not c.if-not-updates_between.false)) (sym c.all_between.ensures ∙ not-false _ (ap not c.if-not-all_between.false)) b in
-    (c.refuse-then-not-formed.ensures ∙ f.0, f.1)
-
-pub returns-then-not-updates_between-2 : goal.returns-then-not-updates_between-2
-returns-then-not-updates_between-2 c =
-    let seen : tree_at c.args.store.now c.args.root.0 ≡ some (tree_in c.args.store.now c.args.root.0) = tree_seen c.args.store.now c.args.root.0 c.in-Tree.field-0 c.check.result c.check.ensures c.in-Tree.is in
-    let formed : Formed c.args.store.now c.args.root.0 c.args.nets.now c.args.widths.now c.args.bits.now c.args.default.now c.args.count c.args.table.now = let a = c.args in
-    let b = not_bad (bad_table a.count a.table.now) (sym (not-false _ (ap not c.if-not-formed.false)) ∙ c.formed.ensures) in
-    is_formed a.store.now a.root.0 a.nets.now a.widths.now a.bits.now a.default.now a.count a.table.now (seen) (sym c.updates_between.ensures ∙ not-false _ (ap not c.if-not-updates_between.false)) (sym c.all_between.ensures ∙ not-false _ (ap not c.if-not-all_between.false)) b in
-    let a = c.args in
-    let f = net-updates a.store.now a.root.0 a.nets.now a.widths.now a.bits.now a.default.now a.count a.table.now (formed) (sym c.updates_between-2.ensures ∙ not-true _ (ap not c.if-not-updates_between-2.true)) in
-    (c.refuse-then-not-updates_between-2.ensures ∙ f.0, f.1)
-
-pub returns-then-not-all_between-2 : goal.returns-then-not-all_between-2
-returns-then-not-all_between-2 c =
-    let seen : tree_at c.args.store.now c.args.root.0 ≡ some (tree_in c.args.store.now c.args.root.0) = tree_seen c.args.store.now c.args.root.0 c.in-Tree.field-0 c.check.result c.check.ensures c.in-Tree.is in
-    let formed : Formed c.args.store.now c.args.root.0 c.args.nets.now c.args.widths.now c.args.bits.now c.args.default.now c.args.count c.args.table.now = let a = c.args in
-    let b = not_bad (bad_table a.count a.table.now) (sym (not-false _ (ap not c.if-not-formed.false)) ∙ c.formed.ensures) in
-    is_formed a.store.now a.root.0 a.nets.now a.widths.now a.bits.now a.default.now a.count a.table.now (seen) (sym c.updates_between.ensures ∙ not-false _ (ap not c.if-not-updates_between.false)) (sym c.all_between.ensures ∙ not-false _ (ap not c.if-not-all_between.false)) b in
-    let a = c.args in
-    let f = net_default a.store.now a.root.0 a.nets.now a.widths.now a.bits.now a.default.now a.count a.table.now (formed) (sym c.updates_between-2.ensures ∙ not-false _ (ap not c.if-not-updates_between-2.false)) (sym c.all_between-2.ensures ∙ not-true _ (ap not c.if-not-all_between-2.true)) in
-    (c.refuse-then-not-all_between-2.ensures ∙ f.0, f.1)
+    let m = tested a.store.now a.root.0 a.nets.now a.widths.now a.bits.now a.default.now a.count a.table.now c.check.result _ _ _ c.check.ensures (sym c.is_err.ensures.value ∙ c.if-is_err.false)
+    c.updates_have.ensures c.if-not-updates_have.false c.have.ensures c.if-not-have.false c.formed.ensures c.if-not-formed.false in
+    says a.store.now a.root.0 a.nets.now a.widths.now a.bits.now a.default.now a.count a.table.now NET _ c.refuse-then-not-updates_have-2.ensures (elim c.then-not-updates_have-2.branch [
+      | then-not-updates_have-2-via-then-not-updates_have-2 w ↦ net-updates a.store.now a.root.0 a.nets.now a.widths.now a.bits.now a.default.now a.count a.table.now m (sym c.updates_have-2.ensures ∙ w.if-not-updates_have-2.true)
+      | then-not-updates_have-2-via-else-not-updates_have-2+then-not-have-2 w ↦
+          net_default a.store.now a.root.0 a.nets.now a.widths.now a.bits.now a.default.now a.count a.table.now m (sym c.updates_have-2.ensures ∙ w.if-not-updates_have-2.false) (sym w.have-else-not-updates_have-2.ensures ∙ w.if-not-have-2.true)
+    ])
 
 pub returns-then-default-gt-WIDTH_MAX : goal.returns-then-default-gt-WIDTH_MAX
 returns-then-default-gt-WIDTH_MAX c =
-    let seen : tree_at c.args.store.now c.args.root.0 ≡ some (tree_in c.args.store.now c.args.root.0) = tree_seen c.args.store.now c.args.root.0 c.in-Tree.field-0 c.check.result c.check.ensures c.in-Tree.is in
-    let formed : Formed c.args.store.now c.args.root.0 c.args.nets.now c.args.widths.now c.args.bits.now c.args.default.now c.args.count c.args.table.now = let a = c.args in
-    let b = not_bad (bad_table a.count a.table.now) (sym (not-false _ (ap not c.if-not-formed.false)) ∙ c.formed.ensures) in
-    is_formed a.store.now a.root.0 a.nets.now a.widths.now a.bits.now a.default.now a.count a.table.now (seen) (sym c.updates_between.ensures ∙ not-false _ (ap not c.if-not-updates_between.false)) (sym c.all_between.ensures ∙ not-false _ (ap not c.if-not-all_between.false)) b in
-    let named : Named c.args.store.now c.args.root.0 c.args.nets.now c.args.widths.now c.args.bits.now c.args.default.now c.args.count c.args.table.now = let a = c.args in
-    is_named a.store.now a.root.0 a.nets.now a.widths.now a.bits.now a.default.now a.count a.table.now (formed) (sym c.updates_between-2.ensures ∙ not-false _ (ap not c.if-not-updates_between-2.false)) (sym c.all_between-2.ensures ∙ not-false _ (ap not c.if-not-all_between-2.false)) in
     let a = c.args in
-    let f = width_default a.store.now a.root.0 a.nets.now a.widths.now a.bits.now a.default.now a.count a.table.now (named) (omega (arith, c.if-default-gt-WIDTH_MAX.true)) in
-    (c.refuse-then-default-gt-WIDTH_MAX.ensures ∙ f.0, f.1)
+    let m = tested a.store.now a.root.0 a.nets.now a.widths.now a.bits.now a.default.now a.count a.table.now c.check.result _ _ _ c.check.ensures (sym c.is_err.ensures.value ∙ c.if-is_err.false)
+    c.updates_have.ensures c.if-not-updates_have.false c.have.ensures c.if-not-have.false c.formed.ensures c.if-not-formed.false in
+    let n = named_too a.store.now a.root.0 a.nets.now a.widths.now a.bits.now a.default.now a.count a.table.now m _ _ c.updates_have-2.ensures c.if-not-updates_have-2.false c.have-else-not-updates_have-2.ensures c.if-not-have-2.false in
+    says a.store.now a.root.0 a.nets.now a.widths.now a.bits.now a.default.now a.count a.table.now WIDTH _ c.refuse-then-default-gt-WIDTH_MAX.ensures (elim c.then-default-gt-WIDTH_MAX.branch [
+      | then-default-gt-WIDTH_MAX-via-then-default-gt-WIDTH_MAX w ↦ width_default a.store.now a.root.0 a.nets.now a.widths.now a.bits.now a.default.now a.count a.table.now n (omega (arith, w.if-default-gt-WIDTH_MAX.true))
+      | then-default-gt-WIDTH_MAX-via-else-default-gt-WIDTH_MAX+then-not-updates_wide w ↦
+          width-updates a.store.now a.root.0 a.nets.now a.widths.now a.bits.now a.default.now a.count a.table.now n (omega (arith, w.if-default-gt-WIDTH_MAX.false)) (sym w.updates_wide.ensures ∙ w.if-not-updates_wide.true)
+    ])
 
-pub returns-then-not-updates_wide : goal.returns-then-not-updates_wide
-returns-then-not-updates_wide c =
-    let seen : tree_at c.args.store.now c.args.root.0 ≡ some (tree_in c.args.store.now c.args.root.0) = tree_seen c.args.store.now c.args.root.0 c.in-Tree.field-0 c.check.result c.check.ensures c.in-Tree.is in
-    let formed : Formed c.args.store.now c.args.root.0 c.args.nets.now c.args.widths.now c.args.bits.now c.args.default.now c.args.count c.args.table.now = let a = c.args in
-    let b = not_bad (bad_table a.count a.table.now) (sym (not-false _ (ap not c.if-not-formed.false)) ∙ c.formed.ensures) in
-    is_formed a.store.now a.root.0 a.nets.now a.widths.now a.bits.now a.default.now a.count a.table.now (seen) (sym c.updates_between.ensures ∙ not-false _ (ap not c.if-not-updates_between.false)) (sym c.all_between.ensures ∙ not-false _ (ap not c.if-not-all_between.false)) b in
-    let named : Named c.args.store.now c.args.root.0 c.args.nets.now c.args.widths.now c.args.bits.now c.args.default.now c.args.count c.args.table.now = let a = c.args in
-    is_named a.store.now a.root.0 a.nets.now a.widths.now a.bits.now a.default.now a.count a.table.now (formed) (sym c.updates_between-2.ensures ∙ not-false _ (ap not c.if-not-updates_between-2.false)) (sym c.all_between-2.ensures ∙ not-false _ (ap not c.if-not-all_between-2.false)) in
-    let a = c.args in
-    let f = width-updates a.store.now a.root.0 a.nets.now a.widths.now a.bits.now a.default.now a.count a.table.now (named) (omega (arith, c.if-default-gt-WIDTH_MAX.false)) (sym c.updates_wide.ensures ∙ not-true _ (ap not c.if-not-updates_wide.true)) in
-    (c.refuse-then-not-updates_wide.ensures ∙ f.0, f.1)
-
-pub overflow_add-k : goal.overflow_add-k
-overflow_add-k c =
-    let seen : tree_at c.args.store.now c.args.root.0 ≡ some (tree_in c.args.store.now c.args.root.0) = tree_seen c.args.store.now c.args.root.0 c.in-Tree.field-0 c.check.result c.check.ensures c.in-Tree.is in
-    let formed : Formed c.args.store.now c.args.root.0 c.args.nets.now c.args.widths.now c.args.bits.now c.args.default.now c.args.count c.args.table.now = let a = c.args in
-    let b = not_bad (bad_table a.count a.table.now) (sym (not-false _ (ap not c.if-not-formed.false)) ∙ c.formed.ensures) in
-    is_formed a.store.now a.root.0 a.nets.now a.widths.now a.bits.now a.default.now a.count a.table.now (seen) (sym c.updates_between.ensures ∙ not-false _ (ap not c.if-not-updates_between.false)) (sym c.all_between.ensures ∙ not-false _ (ap not c.if-not-all_between.false)) b in
-    let named : Named c.args.store.now c.args.root.0 c.args.nets.now c.args.widths.now c.args.bits.now c.args.default.now c.args.count c.args.table.now = let a = c.args in
-    is_named a.store.now a.root.0 a.nets.now a.widths.now a.bits.now a.default.now a.count a.table.now (formed) (sym c.updates_between-2.ensures ∙ not-false _ (ap not c.if-not-updates_between-2.false)) (sym c.all_between-2.ensures ∙ not-false _ (ap not c.if-not-all_between-2.false)) in
-    let sized : Sized c.args.store.now c.args.root.0 c.args.nets.now c.args.widths.now c.args.bits.now c.args.default.now c.args.count c.args.table.now = record { named = named; narrow = omega (arith, c.if-default-gt-WIDTH_MAX.false); updates_are = sym c.updates_wide.ensures ∙ not-false _ (ap not c.if-not-updates_wide.false) } in
-    let a = c.args in
-    omega (arith, (tree-parts a.store.now a.root.0 (sized).named.formed.there).within)
-
-pub overflow_mul-k : goal.overflow_mul-k
-overflow_mul-k c =
-    let seen : tree_at c.args.store.now c.args.root.0 ≡ some (tree_in c.args.store.now c.args.root.0) = tree_seen c.args.store.now c.args.root.0 c.in-Tree.field-0 c.check.result c.check.ensures c.in-Tree.is in
-    let formed : Formed c.args.store.now c.args.root.0 c.args.nets.now c.args.widths.now c.args.bits.now c.args.default.now c.args.count c.args.table.now = let a = c.args in
-    let b = not_bad (bad_table a.count a.table.now) (sym (not-false _ (ap not c.if-not-formed.false)) ∙ c.formed.ensures) in
-    is_formed a.store.now a.root.0 a.nets.now a.widths.now a.bits.now a.default.now a.count a.table.now (seen) (sym c.updates_between.ensures ∙ not-false _ (ap not c.if-not-updates_between.false)) (sym c.all_between.ensures ∙ not-false _ (ap not c.if-not-all_between.false)) b in
-    let named : Named c.args.store.now c.args.root.0 c.args.nets.now c.args.widths.now c.args.bits.now c.args.default.now c.args.count c.args.table.now = let a = c.args in
-    is_named a.store.now a.root.0 a.nets.now a.widths.now a.bits.now a.default.now a.count a.table.now (formed) (sym c.updates_between-2.ensures ∙ not-false _ (ap not c.if-not-updates_between-2.false)) (sym c.all_between-2.ensures ∙ not-false _ (ap not c.if-not-all_between-2.false)) in
-    let sized : Sized c.args.store.now c.args.root.0 c.args.nets.now c.args.widths.now c.args.bits.now c.args.default.now c.args.count c.args.table.now = record { named = named; narrow = omega (arith, c.if-default-gt-WIDTH_MAX.false); updates_are = sym c.updates_wide.ensures ∙ not-false _ (ap not c.if-not-updates_wide.false) } in
-    let a = c.args in
-    omega (arith, (tree-parts a.store.now a.root.0 (sized).named.formed.there).within)
-
-pub slice_bounds-some_leaf-end : goal.slice_bounds-some_leaf-end
-slice_bounds-some_leaf-end c =
-    let seen : tree_at c.args.store.now c.args.root.0 ≡ some (tree_in c.args.store.now c.args.root.0) = tree_seen c.args.store.now c.args.root.0 c.in-Tree.field-0 c.check.result c.check.ensures c.in-Tree.is in
-    let formed : Formed c.args.store.now c.args.root.0 c.args.nets.now c.args.widths.now c.args.bits.now c.args.default.now c.args.count c.args.table.now = let a = c.args in
-    let b = not_bad (bad_table a.count a.table.now) (sym (not-false _ (ap not c.if-not-formed.false)) ∙ c.formed.ensures) in
-    is_formed a.store.now a.root.0 a.nets.now a.widths.now a.bits.now a.default.now a.count a.table.now (seen) (sym c.updates_between.ensures ∙ not-false _ (ap not c.if-not-updates_between.false)) (sym c.all_between.ensures ∙ not-false _ (ap not c.if-not-all_between.false)) b in
-    let named : Named c.args.store.now c.args.root.0 c.args.nets.now c.args.widths.now c.args.bits.now c.args.default.now c.args.count c.args.table.now = let a = c.args in
-    is_named a.store.now a.root.0 a.nets.now a.widths.now a.bits.now a.default.now a.count a.table.now (formed) (sym c.updates_between-2.ensures ∙ not-false _ (ap not c.if-not-updates_between-2.false)) (sym c.all_between-2.ensures ∙ not-false _ (ap not c.if-not-all_between-2.false)) in
-    let sized : Sized c.args.store.now c.args.root.0 c.args.nets.now c.args.widths.now c.args.bits.now c.args.default.now c.args.count c.args.table.now = record { named = named; narrow = omega (arith, c.if-default-gt-WIDTH_MAX.false); updates_are = sym c.updates_wide.ensures ∙ not-false _ (ap not c.if-not-updates_wide.false) } in
-    let a = c.args in
-    sym (length-take-le (node_run * (a.root.0 + 1)) a.store.now (omega (arith, (tree-parts a.store.now a.root.0 (sized).named.formed.there).within)))
+pub entries-requires : goal.entries-requires
+entries-requires c = let a = c.args in (tree-parts a.store.now a.root.0 (tree_found a.store.now a.root.0 c.check.result c.check.ensures (sym c.is_err.ensures.value ∙ c.if-is_err.false))).within
 
 pub returns-then-some_leaf : goal.returns-then-some_leaf
 returns-then-some_leaf c =
-    let seen : tree_at c.args.store.now c.args.root.0 ≡ some (tree_in c.args.store.now c.args.root.0) = tree_seen c.args.store.now c.args.root.0 c.in-Tree.field-0 c.check.result c.check.ensures c.in-Tree.is in
-    let formed : Formed c.args.store.now c.args.root.0 c.args.nets.now c.args.widths.now c.args.bits.now c.args.default.now c.args.count c.args.table.now = let a = c.args in
-    let b = not_bad (bad_table a.count a.table.now) (sym (not-false _ (ap not c.if-not-formed.false)) ∙ c.formed.ensures) in
-    is_formed a.store.now a.root.0 a.nets.now a.widths.now a.bits.now a.default.now a.count a.table.now (seen) (sym c.updates_between.ensures ∙ not-false _ (ap not c.if-not-updates_between.false)) (sym c.all_between.ensures ∙ not-false _ (ap not c.if-not-all_between.false)) b in
-    let named : Named c.args.store.now c.args.root.0 c.args.nets.now c.args.widths.now c.args.bits.now c.args.default.now c.args.count c.args.table.now = let a = c.args in
-    is_named a.store.now a.root.0 a.nets.now a.widths.now a.bits.now a.default.now a.count a.table.now (formed) (sym c.updates_between-2.ensures ∙ not-false _ (ap not c.if-not-updates_between-2.false)) (sym c.all_between-2.ensures ∙ not-false _ (ap not c.if-not-all_between-2.false)) in
-    let sized : Sized c.args.store.now c.args.root.0 c.args.nets.now c.args.widths.now c.args.bits.now c.args.default.now c.args.count c.args.table.now = record { named = named; narrow = omega (arith, c.if-default-gt-WIDTH_MAX.false); updates_are = sym c.updates_wide.ensures ∙ not-false _ (ap not c.if-not-updates_wide.false) } in
     let a = c.args in
-    let f = overlaps a.store.now a.root.0 a.nets.now a.widths.now a.bits.now a.default.now a.count a.table.now (sized) c.some_leaf.result c.some_leaf.ensures c.if-some_leaf.true in
+    let m = tested a.store.now a.root.0 a.nets.now a.widths.now a.bits.now a.default.now a.count a.table.now c.check.result _ _ _ c.check.ensures (sym c.is_err.ensures.value ∙ c.if-is_err.false)
+    c.updates_have.ensures c.if-not-updates_have.false c.have.ensures c.if-not-have.false c.formed.ensures c.if-not-formed.false in
+    let n = named_too a.store.now a.root.0 a.nets.now a.widths.now a.bits.now a.default.now a.count a.table.now m _ _ c.updates_have-2.ensures c.if-not-updates_have-2.false c.have-else-not-updates_have-2.ensures c.if-not-have-2.false in
+    let z = sized_too a.store.now a.root.0 a.nets.now a.widths.now a.bits.now a.default.now a.count a.table.now n _ (omega (arith, c.if-default-gt-WIDTH_MAX.false)) c.updates_wide.ensures c.if-not-updates_wide.false in
+    let f = overlaps a.store.now a.root.0 a.nets.now a.widths.now a.bits.now a.default.now a.count a.table.now z c.some_leaf.result (rw c.entries.ensures at c.some_leaf.ensures) c.if-some_leaf.true in
     (c.refuse-then-some_leaf.ensures ∙ f.0, f.1)
 
 pub place-requires : goal.place-requires
 place-requires c =
-    let seen : tree_at c.args.store.now c.args.root.0 ≡ some (tree_in c.args.store.now c.args.root.0) = tree_seen c.args.store.now c.args.root.0 c.in-Tree.field-0 c.check.result c.check.ensures c.in-Tree.is in
-    let formed : Formed c.args.store.now c.args.root.0 c.args.nets.now c.args.widths.now c.args.bits.now c.args.default.now c.args.count c.args.table.now = let a = c.args in
-    let b = not_bad (bad_table a.count a.table.now) (sym (not-false _ (ap not c.if-not-formed.false)) ∙ c.formed.ensures) in
-    is_formed a.store.now a.root.0 a.nets.now a.widths.now a.bits.now a.default.now a.count a.table.now (seen) (sym c.updates_between.ensures ∙ not-false _ (ap not c.if-not-updates_between.false)) (sym c.all_between.ensures ∙ not-false _ (ap not c.if-not-all_between.false)) b in
-    let named : Named c.args.store.now c.args.root.0 c.args.nets.now c.args.widths.now c.args.bits.now c.args.default.now c.args.count c.args.table.now = let a = c.args in
-    is_named a.store.now a.root.0 a.nets.now a.widths.now a.bits.now a.default.now a.count a.table.now (formed) (sym c.updates_between-2.ensures ∙ not-false _ (ap not c.if-not-updates_between-2.false)) (sym c.all_between-2.ensures ∙ not-false _ (ap not c.if-not-all_between-2.false)) in
-    let sized : Sized c.args.store.now c.args.root.0 c.args.nets.now c.args.widths.now c.args.bits.now c.args.default.now c.args.count c.args.table.now = record { named = named; narrow = omega (arith, c.if-default-gt-WIDTH_MAX.false); updates_are = sym c.updates_wide.ensures ∙ not-false _ (ap not c.if-not-updates_wide.false) } in
     let a = c.args in
-    disjoint_can a.store.now a.root.0 a.nets.now a.widths.now a.bits.now a.default.now a.count a.table.now (sized)
+    let m = tested a.store.now a.root.0 a.nets.now a.widths.now a.bits.now a.default.now a.count a.table.now c.check.result _ _ _ c.check.ensures (sym c.is_err.ensures.value ∙ c.if-is_err.false)
+    c.updates_have.ensures c.if-not-updates_have.false c.have.ensures c.if-not-have.false c.formed.ensures c.if-not-formed.false in
+    let n = named_too a.store.now a.root.0 a.nets.now a.widths.now a.bits.now a.default.now a.count a.table.now m _ _ c.updates_have-2.ensures c.if-not-updates_have-2.false c.have-else-not-updates_have-2.ensures c.if-not-have-2.false in
+    let z = sized_too a.store.now a.root.0 a.nets.now a.widths.now a.bits.now a.default.now a.count a.table.now n _ (omega (arith, c.if-default-gt-WIDTH_MAX.false)) c.updates_wide.ensures c.if-not-updates_wide.false in
+    disjoint_can a.store.now a.root.0 a.nets.now a.widths.now a.bits.now a.default.now a.count a.table.now z
 
 pub returns : goal.returns
 returns c =
-    let seen : tree_at c.args.store.now c.args.root.0 ≡ some (tree_in c.args.store.now c.args.root.0) = tree_seen c.args.store.now c.args.root.0 c.in-Tree.field-0 c.check.result c.check.ensures c.in-Tree.is in
-    let formed : Formed c.args.store.now c.args.root.0 c.args.nets.now c.args.widths.now c.args.bits.now c.args.default.now c.args.count c.args.table.now = let a = c.args in
-    let b = not_bad (bad_table a.count a.table.now) (sym (not-false _ (ap not c.if-not-formed.false)) ∙ c.formed.ensures) in
-    is_formed a.store.now a.root.0 a.nets.now a.widths.now a.bits.now a.default.now a.count a.table.now (seen) (sym c.updates_between.ensures ∙ not-false _ (ap not c.if-not-updates_between.false)) (sym c.all_between.ensures ∙ not-false _ (ap not c.if-not-all_between.false)) b in
-    let named : Named c.args.store.now c.args.root.0 c.args.nets.now c.args.widths.now c.args.bits.now c.args.default.now c.args.count c.args.table.now = let a = c.args in
-    is_named a.store.now a.root.0 a.nets.now a.widths.now a.bits.now a.default.now a.count a.table.now (formed) (sym c.updates_between-2.ensures ∙ not-false _ (ap not c.if-not-updates_between-2.false)) (sym c.all_between-2.ensures ∙ not-false _ (ap not c.if-not-all_between-2.false)) in
-    let sized : Sized c.args.store.now c.args.root.0 c.args.nets.now c.args.widths.now c.args.bits.now c.args.default.now c.args.count c.args.table.now = record { named = named; narrow = omega (arith, c.if-default-gt-WIDTH_MAX.false); updates_are = sym c.updates_wide.ensures ∙ not-false _ (ap not c.if-not-updates_wide.false) } in
     let a = c.args in
-    let f = disjoint-place a.store.now a.root.0 a.nets.now a.widths.now a.bits.now a.default.now a.count a.table.now (sized) c.some_leaf.result c.some_leaf.ensures c.if-some_leaf.false in
+    let m = tested a.store.now a.root.0 a.nets.now a.widths.now a.bits.now a.default.now a.count a.table.now c.check.result _ _ _ c.check.ensures (sym c.is_err.ensures.value ∙ c.if-is_err.false)
+    c.updates_have.ensures c.if-not-updates_have.false c.have.ensures c.if-not-have.false c.formed.ensures c.if-not-formed.false in
+    let n = named_too a.store.now a.root.0 a.nets.now a.widths.now a.bits.now a.default.now a.count a.table.now m _ _ c.updates_have-2.ensures c.if-not-updates_have-2.false c.have-else-not-updates_have-2.ensures c.if-not-have-2.false in
+    let z = sized_too a.store.now a.root.0 a.nets.now a.widths.now a.bits.now a.default.now a.count a.table.now n _ (omega (arith, c.if-default-gt-WIDTH_MAX.false)) c.updates_wide.ensures c.if-not-updates_wide.false in
+    let f = disjoint-place a.store.now a.root.0 a.nets.now a.widths.now a.bits.now a.default.now a.count a.table.now z c.some_leaf.result (rw c.entries.ensures at c.some_leaf.ensures) c.if-some_leaf.false in
     (c.place.ensures.0 ∙ ap emitted_from f.0, c.place.ensures.1 ∙ f.1)

@@ -1,67 +1,50 @@
-use Prim.Native.Nat.{◌+◌, ◌*◌}
-use borrow.Author.Tests.{not-false, not-true}
-use lib.Seq.{length-take-le}
-use mathlib.Core.Path.{sym, ◌∙◌}
-use native.Mathlib.Omega.{arith}
-use Rattle.emit.proofs.Places.{found_is, names_in, nets_in_lem, prefix-done, prefix-form, prefix-net, tree-parts}
-use Rattle.rules.specs.Bounds.{node_run}
+use Rattle.emit.proofs.Places.{found_is, names_in, nets_in_lem, prefix-done, prefix_fair, prefix-form, prefix_named, prefix-net, tree-parts}
 use Rattle.rules.specs.Refusals.{tree_in}
-use Rattle.rules.specs.Store.{tree_at}
-use Rattle.tree.proofs.Handed.{tree_seen, tree_unseen}
-use Rattle.std.proofs.Common.{ap}
-use Rattle.std.proofs.Common.{not}
+use Rattle.rules.specs.Store.{is_none, tree_at}
+use Rattle.std.proofs.Common.{ap, rules, sym, Err, ◌≡◌, ◌∙◌}
+use Rattle.tree.proofs.Handed.{check_none, tree_seen, unchecked}
+use Rattle.emit.proofs.prefix.Goals.{then-not-have-via-then-not-have, then-not-have-via-else-not-have+then-not-have-2, then-not-have-3-via-then-not-have-3, then-not-have-3-via-else-not-have-3+then-not-have-4}
 use Rattle.emit.proofs.prefix.Goals as goal
 
-pub returns-in_default : goal.returns-in_default
-returns-in_default c =
-    let u = tree_unseen c.args.store.now c.args.root.0 c.in_default.field-0 c.check.result c.check.ensures c.in_default.is in
-    prefix-form c.args.store.now c.args.root.0 c.args.outputs.now c.args.enables.now (rw u)
+pub returns-in_err-check : goal.returns-in_err-check
+returns-in_err-check c =
+    let a = c.args in
+    let e : c.from_residual.result ≡ Err c.in_err-check.field-0.0 = search rules in
+    let n = unchecked a.store.now a.root.0 _ (sym c.in_err-check.ensures) in
+    rw e (c.in_err-check.ensures ∙ check_none a.store.now a.root.0 n ∙ prefix-form a.store.now a.root.0 a.outputs.now a.enables.now (rw (ap is_none n)))
 
-pub returns-then-not-all_between : goal.returns-then-not-all_between
-returns-then-not-all_between c =
-    let t = found_is (tree_at c.args.store.now c.args.root.0) _ (tree_seen c.args.store.now c.args.root.0 c.in-Tree.field-0 c.check.result c.check.ensures c.in-Tree.is) in
-    let n = sym (nets_in_lem c.args.outputs.now) ∙ sym c.all_between.ensures ∙ not-true _ (ap not c.if-not-all_between.true) in
-    prefix-form c.args.store.now c.args.root.0 c.args.outputs.now c.args.enables.now (rw (t, n))
+pub returns-then-not-have : goal.returns-then-not-have
+returns-then-not-have c =
+    let a = c.args in
+    let t = found_is (tree_at a.store.now a.root.0) _ (tree_seen a.store.now a.root.0 c.in_ok-check.field-0 c.check.result c.check.ensures c.in_ok-check.was) in
+    let form = prefix-form a.store.now a.root.0 a.outputs.now a.enables.now in
+    let n = sym (nets_in_lem a.outputs.now) ∙ sym c.have.ensures in
+    elim c.then-not-have.branch [
+      | then-not-have-via-then-not-have w ↦ form (rw (t, n ∙ w.if-not-have.true))
+      | then-not-have-via-else-not-have+then-not-have-2 w ↦ form (rw (t, n ∙ w.if-not-have.false, sym (nets_in_lem a.enables.now) ∙ sym w.have-else-not-have.ensures ∙ w.if-not-have-2.true))
+    ]
 
-pub returns-then-not-all_between-2 : goal.returns-then-not-all_between-2
-returns-then-not-all_between-2 c =
-    let t = found_is (tree_at c.args.store.now c.args.root.0) _ (tree_seen c.args.store.now c.args.root.0 c.in-Tree.field-0 c.check.result c.check.ensures c.in-Tree.is) in
-    let n = sym (nets_in_lem c.args.outputs.now) ∙ sym c.all_between.ensures ∙ not-false _ (ap not c.if-not-all_between.false) in
-    let m = sym (nets_in_lem c.args.enables.now) ∙ sym c.all_between-2.ensures ∙ not-true _ (ap not c.if-not-all_between-2.true) in
-    prefix-form c.args.store.now c.args.root.0 c.args.outputs.now c.args.enables.now (rw (t, n, m))
+pub returns-then-not-have-3 : goal.returns-then-not-have-3
+returns-then-not-have-3 c =
+    let a = c.args in
+    let s = tree_seen a.store.now a.root.0 c.in_ok-check.field-0 c.check.result c.check.ensures c.in_ok-check.was in
+    let f = prefix_fair a.store.now a.root.0 a.outputs.now a.enables.now _ _ s c.have.ensures c.if-not-have.false c.have-else-not-have.ensures c.if-not-have-2.false in
+    let net = prefix-net a.store.now a.root.0 a.outputs.now a.enables.now f in
+    let x = sym (names_in a.outputs.now) ∙ sym c.have-2.ensures in
+    elim c.then-not-have-3.branch [
+      | then-not-have-3-via-then-not-have-3 w ↦ net (rw (x ∙ w.if-not-have-3.true))
+      | then-not-have-3-via-else-not-have-3+then-not-have-4 w ↦ net (rw (x ∙ w.if-not-have-3.false, sym (names_in a.enables.now) ∙ sym w.have-else-not-have-3.ensures ∙ w.if-not-have-4.true))
+    ]
 
-pub returns-then-not-all_between-3 : goal.returns-then-not-all_between-3
-returns-then-not-all_between-3 c =
-    let t = found_is (tree_at c.args.store.now c.args.root.0) _ (tree_seen c.args.store.now c.args.root.0 c.in-Tree.field-0 c.check.result c.check.ensures c.in-Tree.is) in
-    let n = sym (nets_in_lem c.args.outputs.now) ∙ sym c.all_between.ensures ∙ not-false _ (ap not c.if-not-all_between.false) in
-    let m = sym (nets_in_lem c.args.enables.now) ∙ sym c.all_between-2.ensures ∙ not-false _ (ap not c.if-not-all_between-2.false) in
-    let x = sym (names_in c.args.outputs.now) ∙ sym c.all_between-3.ensures ∙ not-true _ (ap not c.if-not-all_between-3.true) in
-    prefix-net c.args.store.now c.args.root.0 c.args.outputs.now c.args.enables.now (rw (t, n, m)) (rw x)
-
-pub returns-then-not-all_between-4 : goal.returns-then-not-all_between-4
-returns-then-not-all_between-4 c =
-    let t = found_is (tree_at c.args.store.now c.args.root.0) _ (tree_seen c.args.store.now c.args.root.0 c.in-Tree.field-0 c.check.result c.check.ensures c.in-Tree.is) in
-    let n = sym (nets_in_lem c.args.outputs.now) ∙ sym c.all_between.ensures ∙ not-false _ (ap not c.if-not-all_between.false) in
-    let m = sym (nets_in_lem c.args.enables.now) ∙ sym c.all_between-2.ensures ∙ not-false _ (ap not c.if-not-all_between-2.false) in
-    let x = sym (names_in c.args.outputs.now) ∙ sym c.all_between-3.ensures ∙ not-false _ (ap not c.if-not-all_between-3.false) in
-    let y = sym (names_in c.args.enables.now) ∙ sym c.all_between-4.ensures ∙ not-true _ (ap not c.if-not-all_between-4.true) in
-    prefix-net c.args.store.now c.args.root.0 c.args.outputs.now c.args.enables.now (rw (t, n, m)) (rw (x, y))
-
-pub overflow_add-k : goal.overflow_add-k
-overflow_add-k c = omega (arith, (tree-parts c.args.store.now c.args.root.0 (tree_seen c.args.store.now c.args.root.0 c.in-Tree.field-0 c.check.result c.check.ensures c.in-Tree.is)).within)
-
-pub overflow_mul-k : goal.overflow_mul-k
-overflow_mul-k c = omega (arith, (tree-parts c.args.store.now c.args.root.0 (tree_seen c.args.store.now c.args.root.0 c.in-Tree.field-0 c.check.result c.check.ensures c.in-Tree.is)).within)
-
-pub slice_bounds-longest-end : goal.slice_bounds-longest-end
-slice_bounds-longest-end c = sym (length-take-le (node_run * (c.args.root.0 + 1)) c.args.store.now (omega (arith, (tree-parts c.args.store.now c.args.root.0 (tree_seen c.args.store.now c.args.root.0 c.in-Tree.field-0 c.check.result c.check.ensures c.in-Tree.is)).within)))
+pub entries-requires : goal.entries-requires
+entries-requires c = (tree-parts c.args.store.now c.args.root.0 (tree_seen c.args.store.now c.args.root.0 c.in_ok-check.field-0 c.check.result c.check.ensures c.in_ok-check.was)).within
 
 pub returns : goal.returns
 returns c =
-    let t = found_is (tree_at c.args.store.now c.args.root.0) _ (tree_seen c.args.store.now c.args.root.0 c.in-Tree.field-0 c.check.result c.check.ensures c.in-Tree.is) in
-    let n = sym (nets_in_lem c.args.outputs.now) ∙ sym c.all_between.ensures ∙ not-false _ (ap not c.if-not-all_between.false) in
-    let m = sym (nets_in_lem c.args.enables.now) ∙ sym c.all_between-2.ensures ∙ not-false _ (ap not c.if-not-all_between-2.false) in
-    let x = sym (names_in c.args.outputs.now) ∙ sym c.all_between-3.ensures ∙ not-false _ (ap not c.if-not-all_between-3.false) in
-    let y = sym (names_in c.args.enables.now) ∙ sym c.all_between-4.ensures ∙ not-false _ (ap not c.if-not-all_between-4.false) in
-    let p = tree-parts c.args.store.now c.args.root.0 (tree_seen c.args.store.now c.args.root.0 c.in-Tree.field-0 c.check.result c.check.ensures c.in-Tree.is) in
-    prefix-done c.args.store.now c.args.root.0 c.args.outputs.now c.args.enables.now c.longest.result (rw (t, n, m)) (rw (x, y)) (c.longest.ensures (tree_in c.args.store.now c.args.root.0) p.is p.good)
+    let a = c.args in
+    let s = tree_seen a.store.now a.root.0 c.in_ok-check.field-0 c.check.result c.check.ensures c.in_ok-check.was in
+    let p = tree-parts a.store.now a.root.0 s in
+    prefix-done a.store.now a.root.0 a.outputs.now a.enables.now c.longest.result
+    (prefix_fair a.store.now a.root.0 a.outputs.now a.enables.now _ _ s c.have.ensures c.if-not-have.false c.have-else-not-have.ensures c.if-not-have-2.false)
+    (prefix_named a.store.now a.root.0 a.outputs.now a.enables.now _ _ c.have-2.ensures c.if-not-have-3.false c.have-else-not-have-3.ensures c.if-not-have-4.false)
+    (c.longest.ensures (tree_in a.store.now a.root.0) (c.entries.ensures ∙ p.is) p.good)

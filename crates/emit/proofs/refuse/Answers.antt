@@ -3,4 +3,4 @@ use Rattle.rules.specs.Bounds.{width_max}
 use Rattle.emit.proofs.refuse.Goals as goal
 
 pub returns : goal.returns
-returns c = λ i. record { no = c.args.no; nets = vec_none width_max 0 i; width = 0; used = 0 }
+returns c = λ i. record { no = c.from.ensures i; nets = vec_none width_max 0 i; width = 0; used = 0 }

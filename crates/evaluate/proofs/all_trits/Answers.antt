@@ -1,21 +1,12 @@
-use borrow.Author.Tests.{le-ltb, lt-ltb}
-use lib.ListN.{get_or}
-use mathlib.Core.Path.{sym, ◌∙◌, ap}
-use native.Mathlib.Omega.{arith}
-use Rattle.evaluate.proofs.Turns.{take_min}
-use Rattle.lists.specs.Lists.{all, all_done, all_more, all_stop}
+use Rattle.evaluate.proofs.Turns.{all_chain}
 use Rattle.rules.specs.Bounds.{mux_first}
 use Rattle.rules.specs.Trits.{is_trit}
+use Rattle.std.proofs.Common.{rules, tests, ◌∙◌, take}
+use Rattle.std.proofs.lemmas.Iterator.Search.{all_from_yields_List}
+use Rattle.std.proofs.lemmas.Iterator.{YieldsList-from_slice, YieldsList-from_take}
 use Rattle.evaluate.proofs.all_trits.Goals as goal
 
-pub loop-i-init : goal.loop-i-init
-loop-i-init c = (omega arith, c.given-n.ensures, ap (all is_trit) (take_min c.given-n.result mux_first c.args.trits.now c.given-n.ensures))
-
-pub returns-then-trits-i-gt-UNDEF : goal.returns-then-trits-i-gt-UNDEF
-returns-then-trits-i-gt-UNDEF c = sym (all_stop is_trit c.args.trits.now 0 c.loop-i.i c.given-n.result c.loop-i-test.true (omega (arith, c.loop-i.invariant.1)) (le-ltb _ _ c.if-trits-i-gt-UNDEF.true)) ∙ c.loop-i.invariant.2
-
-pub loop-i-preserved : goal.loop-i-preserved
-loop-i-preserved c = (omega arith, c.loop-i.invariant.1, sym (all_more is_trit c.args.trits.now 0 c.loop-i.i c.given-n.result c.loop-i-test.true (omega (arith, c.loop-i.invariant.1)) (lt-ltb (get_or c.args.trits.now c.loop-i.i 0) 3 (omega (arith, c.if-trits-i-gt-UNDEF.false)))) ∙ c.loop-i.invariant.2)
-
 pub returns : goal.returns
-returns c = sym (all_done is_trit c.args.trits.now 0 c.loop-i.i c.given-n.result c.loop-i.invariant.0 c.loop-i-test.false) ∙ c.loop-i.invariant.2
+returns c =
+    all_from_yields_List is_trit _ _ _ c.all.ensures.ran (YieldsList-from_take mux_first (YieldsList-from_slice c.args.trits.now cc) cc) (λ x b q k. search (rules, tests))
+    ∙ all_chain is_trit (take mux_first c.args.trits.now)

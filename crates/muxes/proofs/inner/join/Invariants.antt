@@ -1,14 +1,9 @@
-use Prim.Native.Nat.{◌≤◌, ◌-◌}
-use lib.ListN.{length, take}
-use mathlib.Core.Path.{◌≡◌}
 use Rattle.lists.specs.Vec.{vec}
 use Rattle.rules.specs.Bounds.{width_max}
 use Rattle.rules.specs.Closed.{branch, drives}
 use Rattle.rules.specs.Emit.{appended}
+use Rattle.std.proofs.Common.{take, ◌≡◌}
 use Rattle.muxes.proofs.inner.join.Given as goal
 
 abbrev pub invariant-loop-i : goal.invariant-loop-i
-invariant-loop-i l = (l.i ≤ l.width) × (length l.table ≡ length l.initial.table) × (l.table ≡ appended l.k (branch l.select (take l.i l.one) (take l.i l.zero)) l.initial.table) × (l.nets ≡ vec width_max 0 (drives l.k l.i))
-
-abbrev pub decreases-loop-i : goal.decreases-loop-i
-decreases-loop-i l = l.width - l.i
+invariant-loop-i l = (l.table ≡ appended l.k (branch l.select (take l.i l.one) (take l.i l.zero)) l.initial.table) × (l.nets ≡ vec width_max 0 (drives l.k l.i))

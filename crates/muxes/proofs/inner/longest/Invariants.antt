@@ -1,5 +1,5 @@
-use Prim.Native.Nat.{◌≤◌, ◌+◌, ◌-◌}
-use lib.ListN.{drop, length, take}
+use Prim.Native.Nat.{◌+◌}
+use lib.ListN.{drop, take}
 use mathlib.Core.Bool.{true}
 use mathlib.Core.Path.{◌≡◌}
 use Rattle.rules.specs.Prefix.{among, prefix, prefix_from}
@@ -8,7 +8,4 @@ use Rattle.rules.specs.Tree.{Tree, fine}
 use Rattle.muxes.proofs.inner.longest.Given as goal
 
 abbrev pub invariant-loop-i : goal.invariant-loop-i
-invariant-loop-i l = (l.i ≤ length l.enables) × (among l.outputs (take l.i l.enables) ≡ true) × ((t : Tree) → l.store ≡ encode t → fine t ≡ true → l.i + prefix_from l.outputs t (take l.i l.enables) (drop l.i l.enables) ≡ prefix l.outputs t l.enables)
-
-abbrev pub decreases-loop-i : goal.decreases-loop-i
-decreases-loop-i l = length l.enables - l.i
+invariant-loop-i l = (among l.outputs (take l.i l.enables) ≡ true) × ((t : Tree) → l.store ≡ encode t → fine t ≡ true → l.i + prefix_from l.outputs t (take l.i l.enables) (drop l.i l.enables) ≡ prefix l.outputs t l.enables)

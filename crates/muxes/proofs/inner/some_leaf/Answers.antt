@@ -1,31 +1,32 @@
-use Prim.Native.Nat.{◌*◌, ◌/◌}
-use lib.ListN.{drop, length}
-use mathlib.Core.Path.{refl, sym, ◌∙◌}
-use native.Mathlib.Omega.{arith}
-use Rattle.muxes.proofs.Leaves.{any_end, any_more, any_start, any_stop, run_long}
-use Rattle.muxes.specs.Leaves.{twice}
+use Rattle.muxes.proofs.Leaves.{any_end, any_more, any_stop}
+use Rattle.muxes.specs.Leaves.{any_leaf}
 use Rattle.rules.specs.Bounds.{node_run}
+use Rattle.std.proofs.Common.{Bool, List, arith, length, sym, ℕ, ◌/◌, ◌≡◌, ◌∙◌}
+use Rattle.std.specs.Slice.Iter.{chunks_exact_rest}
 use Rattle.muxes.proofs.inner.some_leaf.Goals as goal
 
-pub loop-i-init : goal.loop-i-init
-loop-i-init c =
-    let a = c.args in
-    (omega arith, refl, any_start (twice a.positions a.nets.now a.widths.now a.bits.now) a.store.now (length a.store.now / node_run))
+-- what is left decides as the whole does
+decides : (p : List ℕ → Bool) (xs ys : List ℕ) (b : Bool) → any_leaf p (length ys / node_run) ys ≡ any_leaf p (length xs / node_run) xs → any_leaf p (length ys / node_run) ys ≡ b → b ≡ any_leaf p (length xs / node_run) xs
+decides p xs ys b i e = sym e ∙ i
 
-pub meets-requires : goal.meets-requires
-meets-requires c = run_long c.args.store.now c.loop-i.i c.loop-i-test.true
+pub returns-then-entry_meets : goal.returns-then-entry_meets
+returns-then-entry_meets g c =
+    let s = c.in-Some.ensures.steps in
+    let i = c.loop-entry.invariant in
+    decides (g.T.LeafTest.test c.args.test.now) c.args.store.now (chunks_exact_rest c.loop-entry.entry-iterator) _ i.1
+    (any_stop (g.T.LeafTest.test c.args.test.now) (chunks_exact_rest c.loop-entry.entry-iterator) c.in-Some.entry.now (chunks_exact_rest c.next.new.self) s.1.0 (s.1.1 ∙ i.0) (sym c.entry_meets.ensures ∙ c.if-entry_meets.true))
 
-pub returns-then-meets : goal.returns-then-meets
-returns-then-meets c =
-    let a = c.args in
-    sym (any_stop (twice a.positions a.nets.now a.widths.now a.bits.now) a.store.now (length a.store.now / node_run) c.loop-i.i c.loop-i-test.true (sym c.meets.ensures ∙ c.if-meets.true)) ∙ c.loop-i.invariant.2
-
-pub loop-i-preserved : goal.loop-i-preserved
-loop-i-preserved c =
-    let a = c.args in
-    (omega (arith, c.loop-i-test.true), refl, sym (any_more (twice a.positions a.nets.now a.widths.now a.bits.now) a.store.now (length a.store.now / node_run) c.loop-i.i c.loop-i-test.true (sym c.meets.ensures ∙ c.if-meets.false)) ∙ c.loop-i.invariant.2)
+pub loop-entry-preserved : goal.loop-entry-preserved
+loop-entry-preserved g c =
+    let s = c.in-Some.ensures.steps in
+    let i = c.loop-entry.invariant in (
+      s.0 ∙ i.0,
+      decides (g.T.LeafTest.test c.args.test.now) c.args.store.now (chunks_exact_rest c.loop-entry.entry-iterator) _ i.1
+          (any_more (g.T.LeafTest.test c.args.test.now) (chunks_exact_rest c.loop-entry.entry-iterator) c.in-Some.entry.now (chunks_exact_rest c.next.new.self) s.1.0 (s.1.1 ∙ i.0) (sym c.entry_meets.ensures ∙ c.if-entry_meets.false)),
+    )
 
 pub returns : goal.returns
-returns c =
-    let a = c.args in
-    sym (any_end (twice a.positions a.nets.now a.widths.now a.bits.now) (drop (node_run * c.loop-i.i) a.store.now) (length a.store.now / node_run) c.loop-i.i c.loop-i-test.false) ∙ c.loop-i.invariant.2
+returns g c =
+    let s = c.in-None.ensures.steps in
+    let i = c.loop-entry.invariant in
+    decides (g.T.LeafTest.test c.args.test.now) c.args.store.now (chunks_exact_rest c.loop-entry.entry-iterator) _ i.1 (any_end (g.T.LeafTest.test c.args.test.now) (chunks_exact_rest c.loop-entry.entry-iterator) (omega (arith, s.1.0, i.0)))

@@ -1,12 +1,11 @@
-use Prim.Native.Nat.{◌≤◌, ◌-◌, ◌*◌, ◌/◌}
-use lib.ListN.{drop, length}
-use mathlib.Core.Path.{◌≡◌}
-use Rattle.muxes.specs.Leaves.{any_leaf, twice}
+use Rattle.muxes.specs.Leaves.{any_leaf}
 use Rattle.rules.specs.Bounds.{node_run}
+use Rattle.std.proofs.Common.{length, ◌/◌, ◌≡◌}
+use Rattle.std.specs.Slice.Iter.{chunks_exact_rest, chunks_exact_size}
 use Rattle.muxes.proofs.inner.some_leaf.Given as goal
 
-abbrev pub invariant-loop-i : goal.invariant-loop-i
-invariant-loop-i l = (l.i ≤ l.m) × (l.m ≡ length l.store / node_run) × (any_leaf (twice l.positions l.nets l.widths l.bits) (l.m - l.i) (drop (node_run * l.i) l.store) ≡ any_leaf (twice l.positions l.nets l.widths l.bits) l.m l.store)
-
-abbrev pub decreases-loop-i : goal.decreases-loop-i
-decreases-loop-i l = l.m - l.i
+abbrev pub invariant-loop-entry : goal.invariant-loop-entry
+invariant-loop-entry g l =
+    let rest = chunks_exact_rest l.entry-iterator in
+    let p = g.T.LeafTest.test l.test in
+    (chunks_exact_size l.entry-iterator ≡ node_run) × (any_leaf p (length rest / node_run) rest ≡ any_leaf p (length l.store / node_run) l.store)
