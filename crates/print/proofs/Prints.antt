@@ -1,19 +1,16 @@
--- The public printer: which number is given, what the check says of the matrix, and the lent bytes afterwards. Assumes nothing.
+-- The public printer: which number is given, and what the check says of the matrix. Assumes nothing.
 use Prim.Native.Nat.{ℕ, zero, suc, ◌≤◌, ◌<◌}
 use borrow.Author.Tests.{eqb-true, le-ltb, leb-true, lt-ltb, ltb-false, ne_eqb}
 use lib.Dec.{eqb, leb, ltb}
 use lib.ListN.{drop, length, take}
-use lib.Seq.{take_at}
 use mathlib.Core.Bool.{Bool, true, false, not, cond}
 use mathlib.Core.List.{List, [], ◌∷◌, ◌++◌, map}
 use mathlib.Core.Path.{◌≡◌, refl, sym, ap, ◌∙◌}
-use native.Mathlib.Nat.{zero-add}
 use native.Mathlib.Omega.{arith}
 use Rattle.lists.specs.Bools.{and_left, and_right, clash}
 use Rattle.lists.specs.Lists.{all, mem}
 use Rattle.matrix.specs.Mat as mat
 use Rattle.matrix.specs.declared.Matrix.{Matrix}
-use Rattle.print.specs.Put.{Put, put_at}
 use Rattle.print.specs.Texts.{Fits, RowsFit}
 use Rattle.rows.specs.Rows as rows
 use Rattle.rows.specs.declared.Row.{Row}
@@ -130,26 +127,3 @@ module _ (m : Matrix) (e : refusal (matrix_table (mat.given m)) ≡ 0) where
 
   pub text-few : Slots (mat.given m) → length (printed (mat.view m)) ≤ text_max
   text-few s = printed-length (mat.view m) (good-view (mat.given m) s e)
-
--- ---- the bytes
-
-pub put_front : (d bs e : List ℕ) (r : ℕ) → Put d 0 bs e r → e ≡ bs ++ drop (length bs) d
-unfolding put_at
-put_front d bs e r p = p.text ∙ ap (λ (k : ℕ). bs ++ drop k d) (zero-add (length bs))
-
--- a text put at the start is read back from there
-pub take_put : (d bs e : List ℕ) (r : ℕ) → Put d 0 bs e r → take r e ≡ bs
-take_put d bs e r p =
-    let q : length bs ≡ r = omega (arith, p.next) in
-    ap (take r) (put_front d bs e r p) ∙ take_at bs (drop (length bs) d) r q
-
--- the whole call: the text in a buffer of its own, then in front of the lent bytes
-pub printed_whole : (g : Given) (out zeros buf e : List ℕ) (n r : ℕ) → refusal (matrix_table g) ≡ 0 → n ≤ length out → Put zeros 0 (printed (view g)) buf n → Put out 0 (take n buf) e r
-    → (done n ≡ print_answer g out) × (e ≡ print_after g out)
-printed_whole g out zeros buf e n r h k p q =
-    let l : n ≡ length (printed (view g)) = omega (arith, p.next) in
-    let t = by_text g out h (omega arith) in
-    let b = take_put zeros (printed (view g)) buf n p in (
-      ap done l ∙ t.0,
-      put_front out (take n buf) e r q ∙ ap (λ (bs : List ℕ). bs ++ drop (length bs) out) b ∙ t.1,
-    )

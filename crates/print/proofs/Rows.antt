@@ -1,19 +1,19 @@
 -- Lines of rows and of a matrix as their printers put them together. Assumes nothing.
 use Prim.Native.Nat.{ℕ, zero, suc, ◌+◌, ◌≤◌, ◌<◌}
-use lib.ListN.{drop, drop_of_length-le, get_or, length, length-append, take}
-use lib.Seq.{drop-cons, get_or-take, length-take-le}
-use mathlib.Core.List.{List, [], ◌∷◌, ◌++◌, map}
-use mathlib.Core.Path.{◌≡◌, refl, ap, ◌∙◌}
+use lib.ListN.{get_or, length, length-append, take}
+use mathlib.Core.List.{List, [], ◌∷◌, ◌++◌, append_assoc, append-nil, map, reverse}
+use mathlib.Core.Path.{◌≡◌, refl, sym, ap, ◌∙◌}
 use native.Mathlib.Numerals.{add-one}
 use native.Mathlib.Omega.{arith}
 use Rattle.matrix.specs.Mat as mat
 use Rattle.matrix.specs.declared.Matrix.{Matrix}
-use Rattle.print.specs.Texts.{RowFits, RowsFit, downs, rows_text, trits}
+use Rattle.print.proofs.Laws.{put_as, put_then}
+use Rattle.print.specs.Texts.{RowFits, RowsFit, rows_text, trits}
 use Rattle.rows.specs.Rows.{given, view}
 use Rattle.rows.specs.declared.Row.{Row}
 use Rattle.rules.specs.Bytes.{LF, byte, bytes}
 use Rattle.rules.specs.Given.{view_row}
-use Rattle.rules.specs.Print.{printed, row_line, rule_text, together, value_line}
+use Rattle.rules.specs.Print.{nets, printed, row_line, rule_text, together, value_line}
 
 -- ---- one line
 
@@ -34,11 +34,11 @@ module _ (p rs : List ℕ) where
   pub row_long : length (row_line (record { pattern = p; rules = rs })) ≡ 2 + (length (trits p) + (3 + (length (rule_text rs) + 1)))
   row_long = ap length row_is ∙ simp length-append (omega arith)
 
-pub value_is : (ns : List ℕ) → value_line ns ≡ (byte "[" ∷ []) ++ (downs ns ++ closing)
-unfolding value_line downs bytes
+pub value_is : (ns : List ℕ) → value_line ns ≡ (byte "[" ∷ []) ++ (nets (reverse ns) ++ closing)
+unfolding value_line bytes
 value_is ns = refl
 
-pub value_long : (ns : List ℕ) → length (value_line ns) ≡ 1 + (length (downs ns) + 4)
+pub value_long : (ns : List ℕ) → length (value_line ns) ≡ 1 + (length (nets (reverse ns)) + 4)
 value_long ns = ap length (value_is ns) ∙ simp length-append (omega arith)
 
 -- ---- lines together
@@ -53,30 +53,37 @@ pub printed_is : (m : Matrix) → printed (mat.view m) ≡ value_line (take m.co
 unfolding printed
 printed_is m = ap (λ (l : List ℕ). value_line (take m.columns m.value) ++ l) (rows_are m.count m.rows)
 
-row_at : (rs : List Row) (i : ℕ) (d : Row) → i < length rs → RowsFit rs → RowFits (get_or rs i d)
+pub row_at : (rs : List Row) (i : ℕ) (d : Row) → i < length rs → RowsFit rs → RowFits (get_or rs i d)
 unfolding RowsFit
 row_at [] i d h ok = absurd (omega arith)
 row_at (r ∷ rs) zero d h ok = ok.0
 row_at (r ∷ rs) (suc i) d h ok = row_at rs i d (omega arith) ok.1
 
-rest_at : (rs : List Row) (i : ℕ) (d : Row) → i < length rs → rows_text (drop i rs) ≡ row_line (view (get_or rs i d)) ++ rows_text (drop (i + 1) rs)
+-- ---- a loop over rows that has put the first i
+
+rows_next : (rs : List Row) (i : ℕ) (d : Row) → i < length rs → rows_text (take (suc i) rs) ≡ rows_text (take i rs) ++ row_line (view (get_or rs i d))
 unfolding rows_text
-rest_at rs i d h = rw (add-one, drop-cons rs i d h)
+rows_next [] i d h = absurd (omega arith)
+rows_next (r ∷ rs) zero d h = append-nil (row_line (view r))
+rows_next (r ∷ rs) (suc i) d h =
+    let l = row_line (view r) in
+    ap (λ (k : List ℕ). l ++ k) (rows_next rs i d (omega arith)) ∙ sym (append_assoc l (rows_text (take i rs)) (row_line (view (get_or rs i d))))
 
-pub rest_end : (rs : List Row) (i : ℕ) → length rs ≤ i → rows_text (drop i rs) ≡ []
+rows_left : (rs : List Row) (i : ℕ) (d : Row) → i < length rs → length (rows_text (take i rs)) + length (row_line (view (get_or rs i d))) ≤ length (rows_text rs)
 unfolding rows_text
-rest_end rs i h = rw (drop_of_length-le rs h)
+rows_left [] i d h = absurd (omega arith)
+rows_left (r ∷ rs) zero d h = omega (arith, length-append (row_line (view r)) (rows_text rs))
+rows_left (r ∷ rs) (suc i) d h =
+    let l = row_line (view r) in
+    omega (arith, rows_left rs i d (omega arith), length-append l (rows_text rs), length-append l (rows_text (take i rs)))
 
--- the first n of an array's rows
-module _ (rows : List Row) (n i : ℕ) (d : Row) (few : n ≤ length rows) (h : i < n) where
-  within : i < length (take n rows)
-  within = omega (arith, length-take-le n rows few)
+-- old with the lines of the first i rows behind it is now
+module _ (rs : List Row) (i : ℕ) (d : Row) (h : i < length rs) (old now : List ℕ) (p : now ≡ old ++ rows_text (take i rs)) where
+  pub rows_free : (m : ℕ) → length old + length (rows_text rs) ≤ m → length now + length (row_line (view (get_or rs i d))) ≤ m
+  rows_free m q = omega (arith, ap length p, length-append old (rows_text (take i rs)), rows_left rs i d h)
 
-  pub row_fits : RowsFit (take n rows) → RowFits (get_or rows i d)
-  row_fits ok = rw get_or-take at (row_at (take n rows) i d within ok)
-
-  pub rest_next : rows_text (drop i (take n rows)) ≡ row_line (view (get_or rows i d)) ++ rows_text (drop (i + 1) (take n rows))
-  rest_next = rest_at (take n rows) i d within ∙ rw (get_or-take n rows i d h)
+  pub rows_put : (new : List ℕ) → new ≡ now ++ row_line (view (get_or rs i d)) → new ≡ old ++ rows_text (take (i + 1) rs)
+  rows_put new q = put_as old (sym (rw add-one (rows_next rs i d h))) (put_then old (rows_text (take i rs)) (row_line (view (get_or rs i d))) p q)
 
 pub printed_long : (m : Matrix) → length (printed (mat.view m)) ≡ length (value_line (take m.columns m.value)) + length (rows_text (take m.count m.rows))
 printed_long m = ap length (printed_is m) ∙ length-append (value_line (take m.columns m.value)) (rows_text (take m.count m.rows))

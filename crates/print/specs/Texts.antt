@@ -1,20 +1,20 @@
 -- The texts of the printers, and what a row or a matrix must be like to have one. Assumes nothing: these are definitions.
-use Rattle.std.specs.Prelude.{ℕ, ◌≤◌, take, true, cond, List, [], ◌∷◌, map, reverse, ◌≡◌}
+use Rattle.std.specs.Prelude.{ℕ, ◌/◌, ◌≤◌, take, true, cond, leb, List, [], ◌∷◌, map, reverse, ◌≡◌}
 use Rattle.matrix.specs.declared.Matrix.{Matrix}
 use Rattle.rows.specs.Rows.{view}
 use Rattle.rows.specs.declared.Row.{Row}
 use Rattle.rules.specs.Bounds.{columns_max, rows_max, rules_max}
 use Rattle.rules.specs.Bytes.{byte}
-use Rattle.rules.specs.Print.{gap, grouped, net, nets, row_line, together, trit}
+use Rattle.rules.specs.Print.{digit, gap, grouped, net, row_line, together, trit}
 use Rattle.rules.specs.Refusals.{all_low}
+
+-- the figure of n's thousands, hundreds or tens, where n has as many
+abbrev pub lead : ℕ → ℕ → List ℕ
+lead n unit = cond (leb unit n) (digit (n / unit) ∷ []) []
 
 -- a space and a net
 unfoldable pub spaced : ℕ → List ℕ
 spaced n = byte " " ∷ net n
-
--- the nets of a value, from the highest column to the lowest
-unfoldable pub downs : List ℕ → List ℕ
-downs ns = nets (reverse ns)
 
 -- the i-th trit from the left, with its mark
 unfoldable pub marked : ℕ → ℕ → List ℕ

@@ -1,15 +1,14 @@
 -- Nets taken one after the other: the loop that does it, and what printed nets give. Assumes nothing.
 use Prim.Native.Nat.{ℕ, zero, suc, ◌+◌, ◌-◌, ◌*◌, ◌≤◌, ◌<◌}
-use borrow.Author.Tests.{eq-eqb, eqb-false, eqb-true, le-leb, lt-leb, ne_eqb}
-use lib.Dec.{eqb}
+use borrow.Author.Tests.{le-leb, lt-leb}
 use lib.ListN.{drop, get_or, length, length-append, length-set, set}
 use lib.Seq.{drop-cons, get_or-append-add, set_at}
-use mathlib.Core.Bool.{true, not}
+use mathlib.Core.Bool.{Bool, true, not}
 use mathlib.Core.List.{List, [], ◌∷◌, ◌++◌, append_assoc, append-nil}
-use mathlib.Core.Path.{◌≡◌, refl, sym, ap, ◌∙◌}
+use mathlib.Core.Path.{◌≡◌, refl, sym, ap, ◌∙◌, subst}
 use native.Mathlib.Numerals.{add-one}
 use native.Mathlib.Omega.{arith}
-use Rattle.lists.specs.Bools.{and_both, and_left, and_right, by_bool}
+use Rattle.lists.specs.Bools.{and_both, and_left, and_right}
 use Rattle.lists.specs.Lists.{all}
 use Rattle.rules.proofs.Accepts.{not_over}
 use Rattle.rules.proofs.Digits.{net-cell}
@@ -17,24 +16,25 @@ use Rattle.rules.proofs.Longest.{net_long}
 use Rattle.rules.specs.Bytes.{byte}
 use Rattle.rules.specs.Nets.{cell, first_mux, is_cell, number, over}
 use Rattle.rules.specs.Print.{digits, net, nets}
-use Rattle.text.proofs.Scans.{NoFigure, cell-printed, word_low, word_short}
+use Rattle.text.proofs.Scans.{Fine, NoFigure, cell-printed, word_fine}
+use Rattle.std.proofs.Common.{Option, Some, None}
 use Rattle.text.specs.Scan.{cell_at, figure_of, scanned, word_at}
 use Rattle.text.specs.declared.inner.scan.Word.{Word}
 
 -- ---- one turn
 
 module _ (k : ℕ) (s : List ℕ) (at : ℕ) where
-  pub scan_stop : (word_at s at).len ≡ 0 → scanned k s at ≡ []
+  pub scan_stop : word_at s at ≡ None → scanned k s at ≡ []
   unfolding scanned
   scan_stop e = go k
     where
       go : (j : ℕ) → scanned j s at ≡ []
       go zero = refl
-      go (suc j) = rw (eq-eqb (word_at s at).len 0 e)
+      go (suc j) = rw (e, scanned)
 
-  pub scan_on : ((word_at s at).len ≡ 0 → ⊥) → scanned (suc k) s at ≡ (word_at s at).code ∷ scanned k s (at + (word_at s at).len)
+  pub scan_on : (w : Word) → word_at s at ≡ Some w → scanned (suc k) s at ≡ w.code ∷ scanned k s (at + w.len)
   unfolding scanned
-  scan_on e = rw (ne_eqb (word_at s at).len 0 e)
+  scan_on w e = rw (e, scanned)
 
 -- ---- the loop: the nets so far, and how they join with those still to come
 
@@ -56,7 +56,7 @@ module _ (s : List ℕ) (at : ℕ) (out₀ out : List ℕ) (k a : ℕ) (f : Sofa
   done : f.list ≡ scanned (length out₀) s at → (out ≡ scanned (length out₀) s at ++ drop k out₀) × (k ≡ length (scanned (length out₀) s at))
   done e = (f.array ∙ ap (λ (l : List ℕ). l ++ drop k out₀) e, f.count ∙ ap length e)
 
-  pub sofar_stop : (word_at s a).len ≡ 0 → (out ≡ scanned (length out₀) s at ++ drop k out₀) × (k ≡ length (scanned (length out₀) s at))
+  pub sofar_stop : word_at s a ≡ None → (out ≡ scanned (length out₀) s at ++ drop k out₀) × (k ≡ length (scanned (length out₀) s at))
   sofar_stop e = done (sym (append-nil f.list) ∙ ap (λ (l : List ℕ). f.list ++ l) (sym (scan_stop (length out₀ - k) s a e)) ∙ f.joins)
 
   pub sofar_full : length out ≤ k → (out ≡ scanned (length out₀) s at ++ drop k out₀) × (k ≡ length (scanned (length out₀) s at))
@@ -65,10 +65,10 @@ module _ (s : List ℕ) (at : ℕ) (out₀ out : List ℕ) (k a : ℕ) (f : Sofa
       let z : length out₀ - k ≡ 0 = omega (arith, f.long) in
       done (sym (append-nil f.list) ∙ ap (λ (n : ℕ). f.list ++ scanned n s a) (sym z) ∙ f.joins)
 
-  pub sofar_more : k < length out → ((word_at s a).len ≡ 0 → ⊥) → Sofar s at out₀ (set out k (word_at s a).code) (k + 1) (a + (word_at s a).len)
-  sofar_more h e =
-      let w = word_at s a in
+  pub sofar_more : k < length out → (w : Word) → word_at s a ≡ Some w → Sofar s at out₀ (set out k w.code) (k + 1) (a + w.len)
+  sofar_more h w e =
       let x = w.code in
+      let fine : Fine (Some w) = subst Fine e (word_fine s a) in
       let l = f.list in
       let g : k < length out₀ = omega (arith, f.long) in
       let left : length out₀ - k ≡ suc (length out₀ - (k + 1)) = omega arith in
@@ -81,39 +81,45 @@ module _ (s : List ℕ) (at : ℕ) (out₀ out : List ℕ) (k a : ℕ) (f : Sofa
         array = p;
         count = n;
         joins = append_assoc l (x ∷ []) (scanned (length out₀ - (k + 1)) s (a + w.len))
-            ∙ ap (λ (u : List ℕ). l ++ u) (sym (scan_on (length out₀ - (k + 1)) s a e)) ∙ ap (λ (j : ℕ). l ++ scanned j s a) (sym left) ∙ f.joins;
+            ∙ ap (λ (u : List ℕ). l ++ u) (sym (scan_on (length out₀ - (k + 1)) s a w e)) ∙ ap (λ (j : ℕ). l ++ scanned j s a) (sym left) ∙ f.joins;
         few = omega arith;
-        near = omega (arith, word_short s a, f.near);
+        near = omega (arith, fine.1, f.near);
         long = length-set out k x ∙ f.long;
       }
 
 -- ---- whatever stands there
 
+-- by cases on what stands there
+by_word : {P : Type 0} (o : Option Word) → (o ≡ None → P) → ((w : Word) → o ≡ Some w → P) → P
+by_word None f g = f refl
+by_word (Some w) f g = g w refl
+
+abbrev low : ℕ → Bool
+low n = not (over n)
+
 pub scan_low : (k : ℕ) (s : List ℕ) (at : ℕ) → all (λ (n : ℕ). not (over n)) (scanned k s at) ≡ true
 unfolding scanned
 scan_low zero s at = refl
 scan_low (suc k) s at =
-    let r = scan_low k s (at + (word_at s at).len) in
-    by_bool (eqb (word_at s at).len 0)
-    (λ p. ap (all (λ (n : ℕ). not (over n))) (scan_stop (suc k) s at (eqb-true (word_at s at).len 0 p)))
-    (λ p. ap (all (λ (n : ℕ). not (over n))) (scan_on k s at (eqb-false (word_at s at).len 0 p))
-    ∙ and_both (not (over (word_at s at).code)) (all (λ (n : ℕ). not (over n)) (scanned k s (at + (word_at s at).len)))
-    (ap not (lt-leb first_mux (word_at s at).code (word_low s at))) r)
+    by_word (word_at s at)
+    (λ e. ap (all low) (scan_stop (suc k) s at e))
+    (λ w e. let fine : Fine (Some w) = subst Fine e (word_fine s at) in
+    ap (all low) (scan_on k s at w e)
+    ∙ and_both (low w.code) (all low (scanned k s (at + w.len))) (ap not (lt-leb first_mux w.code fine.0)) (scan_low k s (at + w.len)))
 
 pub scan_few : (k : ℕ) (s : List ℕ) (at : ℕ) → length (scanned k s at) ≤ k
 unfolding scanned
 scan_few zero s at = omega arith
 scan_few (suc k) s at =
-    let r = scan_few k s (at + (word_at s at).len) in
-    by_bool (eqb (word_at s at).len 0)
-    (λ p. omega (arith, ap length (scan_stop (suc k) s at (eqb-true (word_at s at).len 0 p))))
-    (λ p. omega (arith, r, ap length (scan_on k s at (eqb-false (word_at s at).len 0 p))))
+    by_word (word_at s at)
+    (λ e. omega (arith, ap length (scan_stop (suc k) s at e)))
+    (λ w e. omega (arith, scan_few k s (at + w.len), ap length (scan_on k s at w e)))
 
 -- ---- printed nets
 
 -- a text in which no net stands in front
 abbrev pub Shut : List ℕ → Type 0
-Shut t = (word_at t 0).len ≡ 0
+Shut t = word_at t 0 ≡ None
 
 pub word_front : (p t : List ℕ) → word_at (p ++ t) (length p) ≡ word_at t 0
 unfolding word_at cell_at
@@ -126,7 +132,7 @@ word_front p t =
     let i5 : length p + 2 + 3 ≡ length p + 5 = omega arith in
     rw (i3, i4, i5, g0, g 1, g 2, g 3, g 4, g 5)
 
-pub word_printed : (n : ℕ) (t : List ℕ) → n < first_mux → NoFigure t → word_at ((byte " " ∷ net n) ++ t) 0 ≡ record { code = n; len = suc (length (net n)) }
+pub word_printed : (n : ℕ) (t : List ℕ) → n < first_mux → NoFigure t → word_at ((byte " " ∷ net n) ++ t) 0 ≡ Some (record { code = n; len = suc (length (net n)) })
 unfolding net word_at
 word_printed zero t h f = refl
 word_printed (suc zero) t h f = refl
@@ -139,7 +145,7 @@ word_printed (suc (suc (suc k))) t h f =
     let b = sym m in
     ap (λ (l : List ℕ). word_at ((byte " " ∷ l) ++ t) 0) m
     ∙ cell-printed (number n) t f (omega arith)
-    ∙ (λ i. record { code = e i; len = suc (length (b i)) })
+    ∙ (λ i. Some (record { code = e i; len = suc (length (b i)) }))
 
 -- no figure follows a net: the next starts with a space
 no_figure : (ns t : List ℕ) → NoFigure t → NoFigure (nets ns ++ t)
@@ -149,7 +155,7 @@ no_figure (n ∷ ns) t f = refl
 
 pub scan_printed : (k : ℕ) (p ns t : List ℕ) → length ns ≤ k → all (λ (n : ℕ). not (over n)) ns ≡ true → NoFigure t → Shut t → scanned k (p ++ (nets ns ++ t)) (length p) ≡ ns
 unfolding nets
-scan_printed k p [] t h a f z = scan_stop k (p ++ t) (length p) (ap (λ (w : Word). w.len) (word_front p t) ∙ z)
+scan_printed k p [] t h a f z = scan_stop k (p ++ t) (length p) (word_front p t ∙ z)
 scan_printed zero p (n ∷ ns) t h a f z = absurd (omega arith)
 scan_printed (suc k) p (n ∷ ns) t h a f z =
     let low = and_left (not (over n)) (all (λ (j : ℕ). not (over j)) ns) a in
@@ -160,12 +166,10 @@ scan_printed (suc k) p (n ∷ ns) t h a f z =
     let e : s ≡ p ++ (piece ++ rest) = ap (λ (l : List ℕ). p ++ l) (append_assoc piece (nets ns) t) in
     let d : s ≡ q ++ rest = e ∙ sym (append_assoc p piece rest) in
     let l : length p + suc (length (net n)) ≡ length q = omega (arith, length-append p piece) in
-    let w : word_at s (length p) ≡ record { code = n; len = suc (length (net n)) } =
+    let w : word_at s (length p) ≡ Some (record { code = n; len = suc (length (net n)) }) =
     ap (λ (u : List ℕ). word_at u (length p)) e ∙ word_front p (piece ++ rest) ∙ word_printed n rest (not_over n low) (no_figure ns t f) in
-    let c : (word_at s (length p)).len ≡ suc (length (net n)) = ap (λ (x : Word). x.len) w in
     let r : scanned k (q ++ rest) (length q) ≡ ns = scan_printed k q ns t (omega arith) (and_right (not (over n)) (all (λ (j : ℕ). not (over j)) ns) a) f z in
-    scan_on k s (length p) (λ y. omega (arith, c, y))
-    ∙ ap (λ (x : Word). x.code ∷ scanned k s (length p + x.len)) w
+    scan_on k s (length p) (record { code = n; len = suc (length (net n)) }) w
     ∙ ap (λ (j : ℕ). n ∷ scanned k s j) l
     ∙ ap (λ (u : List ℕ). n ∷ scanned k u (length q)) d
     ∙ ap (λ (u : List ℕ). n ∷ u) r

@@ -2,8 +2,10 @@
 use Prim.Native.Nat.{ℕ}
 use mathlib.Core.List.{List}
 use mathlib.Core.Path.{◌≡◌, ap, refl, sym, ◌∙◌}
-use native.Mathlib.Omega.{arith}
 use Rattle.lists.specs.One.{One}
+use Rattle.rules.proofs.Told.{read_one as result_one}
+use Rattle.rules.specs.declared.refusal.Refusal.{Refusal}
+use Rattle.std.specs.Prelude.{Result}
 use Rattle.text.proofs.print.Kinds as print-kinds
 use Rattle.text.proofs.print.Reads as print-reads
 use Rattle.text.proofs.print_tree.Kinds as print-tree-kinds
@@ -11,14 +13,9 @@ use Rattle.text.proofs.print_tree.Reads as print-tree-reads
 use Rattle.text.proofs.read.Kinds as read-kinds
 use Rattle.text.proofs.read.Reads as read-reads
 use Rattle.text.specs.Calls.{printed_read}
-use Rattle.text.specs.declared.Printed.TheVariants.{Done, Refused}
-use Rattle.text.specs.declared.Printed.{Printed}
 
-printed_read_lem : (r q : Printed) → printed_read r ≡ printed_read q → r ≡ q
-printed_read_lem (Done m) (Done n) e = let i : m ≡ n = cc in ap Done i
-printed_read_lem (Done m) (Refused n) e = let z : ◌≡◌ {A = ℕ} 0 1 = cc in absurd (omega arith)
-printed_read_lem (Refused m) (Done n) e = let z : ◌≡◌ {A = ℕ} 0 1 = cc in absurd (omega arith)
-printed_read_lem (Refused m) (Refused n) e = let i : m ≡ n = cc in ap Refused i
+printed_read_lem : (r q : Result ℕ Refusal) → printed_read r ≡ printed_read q → r ≡ q
+printed_read_lem r q e = result_one (λ n. n) (λ a b i. i) printed_read (λ a. refl) (λ w. refl) r q e
 
 pub print_one : One 1 print-kinds.ps print-kinds.r print-reads.Post
 print_one κs a x y ws vs e f = (printed_read_lem x y (e.0 ∙ sym f.0), ap (λ (s : List ℕ). (tt, (s, tt))) (e.1 ∙ sym f.1))

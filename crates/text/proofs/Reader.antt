@@ -1,15 +1,16 @@
 -- The reader from line to line: where a line ends, what is read so far, and the whole answer. Assumes nothing.
-use Prim.Native.Nat.{ℕ, zero, suc, ◌+◌, ◌-◌, ◌≤◌, ◌<◌}
-use borrow.Author.Tests.{eq-eqb, le-ltb, leb-true, lt-ltb, ne_eqb}
+use Prim.Native.Nat.{ℕ, zero, suc, ◌+◌, ◌≤◌, ◌<◌}
+use borrow.Author.Tests.{eq-eqb, eqb-true, le-ltb, leb-true, lt-ltb, ltb-false, ltb-true}
 use lib.Dec.{eqb, leb, ltb}
-use lib.ListN.{drop, drop_of_length-le, get_or, length, length-append, length-drop, length-map, set, take}
-use lib.Seq.{drop-drop, length-take-le, take_all, take-suc}
+use lib.ListN.{drop, drop_of_length-le, get_or, length, length-append, length-map, set, take}
+use lib.Seq.{length-take-le, take_all}
 use mathlib.Core.Bool.{Bool, true, false, not, cond, ◌&&◌}
 use mathlib.Core.List.{List, [], ◌∷◌, ◌++◌, map}
-use mathlib.Core.Path.{◌≡◌, refl, sym, ap, ◌∙◌, subst}
-use native.Mathlib.Numerals.{add-one}
+use mathlib.Core.Path.{◌≡◌, refl, sym, ap, ◌∙◌}
 use native.Mathlib.Omega.{arith}
-use Rattle.lists.specs.Bools.{and_both, and_left, and_right, not_is}
+use Rattle.lists.specs.Bools.{and_both, and_left, and_right, by_bool, not_is}
+use Rattle.std.proofs.Common.{Option, Some, None, true≢false}
+use Rattle.std.specs.List.{position, prefix_len}
 use Rattle.lists.specs.Lists.{all, same}
 use Rattle.lists.specs.Vec.{length-vec, push, take-vec, vec}
 use Rattle.matrix.specs.Mat.{matrix_from}
@@ -18,7 +19,6 @@ use Rattle.rows.specs.Rows.{from, nets_from, row_from}
 use Rattle.rows.specs.declared.Nets.{Nets}
 use Rattle.rows.specs.declared.Row.{Row as Struct}
 use Rattle.rules.proofs.Reader.{first_off, first_on, fits, rows-off, rows_on}
-use Rattle.rules.proofs.Words.{all_append}
 use Rattle.rules.specs.Answers.{read_answer, read_made}
 use Rattle.rules.specs.Bounds.{columns_max, rows_max}
 use Rattle.rules.specs.Bytes.{LF}
@@ -28,12 +28,9 @@ use Rattle.rules.specs.Nets.{over}
 use Rattle.rules.specs.Print.{value_line}
 use Rattle.rules.specs.Read.{Read, grown, is_row_line, is_value_line, lines, nets_in, read, read_lines, read_rows, row_in, whole, wrong}
 use Rattle.text.specs.Calls.{read_from}
-use Rattle.text.specs.Steps.{Cut, HeadFits, Stepped, line_at}
+use Rattle.text.specs.Steps.{Cut, HeadFits}
 use Rattle.text.specs.Taken.{bare, row_taken, value_taken}
 use Rattle.text.specs.declared.ReadMade.{ReadMade}
-use Rattle.text.specs.declared.inner.parse.Head.{Head}
-use Rattle.text.specs.declared.inner.parse.Taken.{Taken}
-use Rattle.text.specs.declared.inner.reader.Step.{Step}
 
 -- ---- where a line ends
 
@@ -73,55 +70,59 @@ module _ (s : List ℕ) (i : ℕ) (a : all solid (take i s) ≡ true) where
         line = rest-line s h (ap (all solid) (sym t) ∙ a) ∙ ap (λ (l : List ℕ). l ∷ []) (sym t) ∙ ap (λ (l : List ℕ). take i s ∷ lines l) (sym d);
       }
 
-  pub solid_more : i < length s → (get_or s i 0 ≡ LF → ⊥) → all solid (take (i + 1) s) ≡ true
-  solid_more h e =
-      let x = get_or s i 0 in
-      let t : take (i + 1) s ≡ take i s ++ (x ∷ []) = rw add-one (take-suc s i 0 h) in
-      ap (all solid) t ∙ all_append solid (take i s) (x ∷ []) a (and_both (solid x) true (ap not (ne_eqb x LF e)) refl)
+-- what stands before the first LF of a text, and what stands there
+one-add : (n : ℕ) → 1 + n ≡ suc n
+one-add n = omega arith
 
--- ---- a line in the text
+first_solid : (s : List ℕ) → all solid (take (prefix_len solid s) s) ≡ true
+first_solid [] = refl
+first_solid (x ∷ s) =
+    by_bool (solid x)
+    (λ p. rw (p, one-add) (and_both (solid x) (all solid (take (prefix_len solid s) s)) p (first_solid s)))
+    (λ p. rw p)
 
-module _ (s : List ℕ) (at : ℕ) (h : at < length s) where
-  rest_long : length (drop at s) ≡ length s - at
-  rest_long = length-drop at s
+first_stop : (s : List ℕ) → prefix_len solid s < length s → get_or s (prefix_len solid s) 0 ≡ LF
+first_stop [] h = absurd (omega arith)
+first_stop (x ∷ s) h =
+    by_bool (solid x)
+    (λ p. let k = rw p at h in rw (p, one-add) (first_stop s (omega (arith, k))))
+    (λ p. rw p (lf_is x p))
+  where
+    lf_is : (y : ℕ) → solid y ≡ false → y ≡ LF
+    lf_is y e = by_bool (eqb y LF) (λ t. eqb-true y LF t) (λ t. let f : true ≡ false = sym (ap not t) ∙ e in absurd (true≢false f))
 
-  part_is : take (length s - at) (drop at s) ≡ drop at s
-  part_is = take_all (length s - at) (drop at s) (omega (arith, rest_long))
+module _ (s : List ℕ) (some : 0 < length s) (o : Option ℕ) (e : o ≡ position (λ (x : ℕ). eqb x LF) s) where
+  abbrev before : ℕ
+  before = prefix_len solid s
 
-  pub part_some : 0 < length (take (length s - at) (drop at s))
-  part_some = omega (arith, ap length part_is, rest_long)
+  pub end_found : (i : ℕ) → o ≡ Some i → Cut s (i + 1)
+  end_found i q =
+      by_bool (ltb before (length s))
+      (λ t. let w : Some before ≡ Some i = sym (ap (λ (b : Bool). cond b (Some before) None) t) ∙ sym e ∙ q in
+      let v : before ≡ i = cc in
+      let h = ltb-true before (length s) t in
+      cut-lf s i (rw v at (first_solid s)) (rw v at h) (rw v at (first_stop s h)))
+      (λ t. let w : None ≡ Some i = sym (ap (λ (b : Bool). cond b (Some before) None) t) ∙ sym e ∙ q in absurd (cc))
 
-  module _ (r : ℕ) (c : Cut (take (length s - at) (drop at s)) r) where
-    cut : Cut (drop at s) r
-    cut = subst (λ (l : List ℕ). Cut l r) part_is c
-
-    pub cut_within : at + r ≤ length s
-    cut_within = omega (arith, cut.within, rest_long)
-
-    pub stepped : (w : ℕ) (t : Taken) → t ≡ row_taken w (line_at s at (at + r)) → Stepped w s at (record { fine = t.fine; row = t.row; next = at + r })
-    unfolding row_taken
-    stepped w t e =
-        let n : r ≡ at + r - at = omega arith in
-        record {
-          ahead = omega (arith, cut.some);
-          within = cut_within;
-          line = cut.line ∙ ap (λ (k : ℕ). take k (drop at s) ∷ lines (drop r (drop at s))) n ∙ ap (λ (l : List ℕ). line_at s at (at + r) ∷ lines l) (drop-drop r at s);
-          fine = ap (λ (x : Taken). x.fine) e;
-          row = ap (λ (x : Taken). x.row) e;
-        }
+  pub end_missing : o ≡ None → Cut s (length s)
+  end_missing q =
+      by_bool (ltb before (length s))
+      (λ t. let w : Some before ≡ None = sym (ap (λ (b : Bool). cond b (Some before) None) t) ∙ sym e ∙ q in absurd (cc))
+      (λ t. let h = ltb-false before (length s) t in
+      let u : take (length s) s ≡ take before s = take_all (length s) s (omega arith) ∙ sym (take_all before s h) in
+      cut_end s (length s) (ap (all solid) u ∙ first_solid s) some (omega arith) (omega arith))
 
 -- ---- the rows so far
 
 abbrev pub nets_of : Nets → List ℕ
 nets_of h = take h.columns h.value
 
-pub record Rowed (h : Nets) (s : List ℕ) (at : ℕ) (made : List Struct) (n a : ℕ) : Type 0 where
+pub record Rowed (h : Nets) (s : List ℕ) (made : List Struct) (n : ℕ) (rest : List ℕ) : Type 0 where
   pub list : List Row
   pub array : made ≡ vec rows_max (row_from bare) (map row_from list)
   pub count : n ≡ length list
   pub few : n ≤ rows_max
-  pub near : a ≤ length s
-  pub joins : read_rows (nets_of h) list (lines (drop a s)) ≡ read_rows (nets_of h) [] (lines (drop at s))
+  pub joins : read_rows (nets_of h) list (lines rest) ≡ read_rows (nets_of h) [] (lines s)
 
 map-vec : {A B : Type 0} (f : A → B) (n : ℕ) (d : A) (l : List A) → map f (vec n d l) ≡ vec n (f d) (map f l)
 unfolding vec
@@ -137,16 +138,24 @@ map_snoc : (rs : List Row) (r : Row) → map row_from (rs ++ (r ∷ [])) ≡ map
 map_snoc [] r = refl
 map_snoc (x ∷ rs) r = ap (λ (k : List Struct). row_from x ∷ k) (map_snoc rs r)
 
-pub rowed_none : (h : Nets) (s : List ℕ) (at : ℕ) (m : MatrixStruct) → m ≡ matrix_from none_yet → at ≤ length s → Rowed h s at m.rows 0 at
-rowed_none h s at m e k =
+pub rowed_none : (h : Nets) (s : List ℕ) (m : MatrixStruct) → m ≡ matrix_from none_yet → Rowed h s m.rows 0 s
+rowed_none h s m e =
     record {
       list = [];
       array = ap (λ (x : MatrixStruct). x.rows) e ∙ map-vec from rows_max zero_given [];
       count = refl;
       few = omega arith;
-      near = k;
       joins = refl;
     }
+
+-- what an answer that may be none says of its test
+untaken : {A : Type 0} (b : Bool) (x : A) → None ≡ cond b (Some x) None → b ≡ false
+untaken true x e = absurd (cc)
+untaken false x e = refl
+
+taken : {A : Type 0} (b : Bool) (x y : A) → Some y ≡ cond b (Some x) None → (b ≡ true) × (y ≡ x)
+taken true x y e = (refl, cc)
+taken false x y e = absurd (cc)
 
 and_off : (a b : Bool) → a ≡ false → (a && b) ≡ false
 and_off a b e = rw e
@@ -160,41 +169,41 @@ width h f =
     let l : length h.value ≡ columns_max = ap (λ (x : Nets). length x.value) f.tidy ∙ length-vec columns_max 0 (nets_of h) in
     length-take-le h.columns h.value (omega (arith, f.few))
 
-module _ (h : Nets) (f : HeadFits h) (s : List ℕ) (at : ℕ) (made : List Struct) (n a : ℕ) (r : Rowed h s at made n a) where
+module _ (h : Nets) (f : HeadFits h) (s : List ℕ) (made : List Struct) (n : ℕ) (rest : List ℕ) (r : Rowed h s made n rest) where
   -- the answer, by what is read
-  answer : (x : Read) → read_rows (nets_of h) r.list (lines (drop a s)) ≡ x → read_from (read_made x) ≡ read_from (read_made (read_rows (nets_of h) [] (lines (drop at s))))
+  answer : (x : Read) → read_rows (nets_of h) r.list (lines rest) ≡ x → read_from (read_made x) ≡ read_from (read_made (read_rows (nets_of h) [] (lines s)))
   answer x e = ap (λ (y : Read). read_from (read_made y)) (sym e ∙ r.joins)
 
-  module _ (t : Step) (p : Stepped h.columns s a t) where
+  module _ (e : ℕ) (c : Cut rest e) where
     abbrev line : List ℕ
-    line = line_at s a t.next
+    line = take e rest
 
-    is_line : is_row_line (length (nets_of h)) line ≡ t.fine
-    is_line = ap (λ (w : ℕ). is_row_line w line) (width h f) ∙ sym p.fine
+    is_line : is_row_line (length (nets_of h)) line ≡ is_row_line h.columns line
+    is_line = ap (λ (w : ℕ). is_row_line w line) (width h f)
 
-    refuses : fits (nets_of h) r.list line ≡ false → (y : ReadMade) → y ≡ read_from (read_made (wrong (n + 2))) → y ≡ read_from (read_made (read_rows (nets_of h) [] (lines (drop at s))))
-    refuses g y e =
-        let c : read_rows (nets_of h) r.list (lines (drop a s)) ≡ wrong (n + 2) =
-        ap (read_rows (nets_of h) r.list) p.line ∙ rows-off (nets_of h) r.list line (lines (drop t.next s)) g ∙ ap (λ (k : ℕ). wrong (k + 2)) (sym r.count) in
-        e ∙ answer (wrong (n + 2)) c
+    refuses : fits (nets_of h) r.list line ≡ false → (y : ReadMade) → y ≡ read_from (read_made (wrong (n + 2))) → y ≡ read_from (read_made (read_rows (nets_of h) [] (lines s)))
+    refuses g y q =
+        let w : read_rows (nets_of h) r.list (lines rest) ≡ wrong (n + 2) =
+        ap (read_rows (nets_of h) r.list) c.line ∙ rows-off (nets_of h) r.list line (lines (drop e rest)) g ∙ ap (λ (k : ℕ). wrong (k + 2)) (sym r.count) in
+        q ∙ answer (wrong (n + 2)) w
 
-    pub rowed_off : t.fine ≡ false → (y : ReadMade) → y ≡ read_from (read_made (wrong (n + 2))) → y ≡ read_from (read_made (read_rows (nets_of h) [] (lines (drop at s))))
-    rowed_off z = refuses (and_off (is_row_line (length (nets_of h)) line) (ltb (length r.list) rows_max) (is_line ∙ z))
+    pub rowed_off : None ≡ row_taken h.columns line → (y : ReadMade) → y ≡ read_from (read_made (wrong (n + 2))) → y ≡ read_from (read_made (read_rows (nets_of h) [] (lines s)))
+    rowed_off z = refuses (and_off (is_row_line (length (nets_of h)) line) (ltb (length r.list) rows_max) (is_line ∙ untaken (is_row_line h.columns line) (row_from (row_in line)) z))
 
-    pub rowed_full : n ≡ rows_max → (y : ReadMade) → y ≡ read_from (read_made (wrong (n + 2))) → y ≡ read_from (read_made (read_rows (nets_of h) [] (lines (drop at s))))
+    pub rowed_full : n ≡ rows_max → (y : ReadMade) → y ≡ read_from (read_made (wrong (n + 2))) → y ≡ read_from (read_made (read_rows (nets_of h) [] (lines s)))
     rowed_full z = refuses (and_late (is_row_line (length (nets_of h)) line) (ltb (length r.list) rows_max) (le-ltb (length r.list) rows_max (omega (arith, r.count))))
 
-    pub rowed_more : t.fine ≡ true → (n ≡ rows_max → ⊥) → Rowed h s at (set made n t.row) (n + 1) t.next
-    rowed_more z k =
+    pub rowed_more : (row : Struct) → Some row ≡ row_taken h.columns line → (n ≡ rows_max → ⊥) → Rowed h s (set made n row) (n + 1) (drop e rest)
+    rowed_more row z k =
         let rs = r.list in
         let x = row_in line in
+        let t = taken (is_row_line h.columns line) (row_from x) row z in
         let b : length rs < rows_max = omega (arith, r.count, r.few) in
-        let g : fits (nets_of h) rs line ≡ true = and_both (is_row_line (length (nets_of h)) line) (ltb (length rs) rows_max) (is_line ∙ z) (lt-ltb (length rs) rows_max b) in
-        let y : t.row ≡ row_from x = p.row ∙ ap (λ (c : Bool). row_from (cond c x bare)) (sym p.fine ∙ z) in
+        let g : fits (nets_of h) rs line ≡ true = and_both (is_row_line (length (nets_of h)) line) (ltb (length rs) rows_max) (is_line ∙ t.0) (lt-ltb (length rs) rows_max b) in
         let l : length (map row_from rs) ≡ n = length-map rs row_from ∙ sym r.count in
-        let v : set made n t.row ≡ vec rows_max (row_from bare) (map row_from (rs ++ (x ∷ []))) =
-        ap (λ (u : List Struct). set u n t.row) r.array
-        ∙ ap (λ (q : Struct). set (vec rows_max (row_from bare) (map row_from rs)) n q) y
+        let v : set made n row ≡ vec rows_max (row_from bare) (map row_from (rs ++ (x ∷ []))) =
+        ap (λ (u : List Struct). set u n row) r.array
+        ∙ ap (λ (q : Struct). set (vec rows_max (row_from bare) (map row_from rs)) n q) t.1
         ∙ ap (λ (j : ℕ). set (vec rows_max (row_from bare) (map row_from rs)) j (row_from x)) (sym l)
         ∙ push rows_max (row_from bare) (map row_from rs) (row_from x) (omega (arith, l, r.count))
         ∙ ap (vec rows_max (row_from bare)) (sym (map_snoc rs x)) in
@@ -203,24 +212,27 @@ module _ (h : Nets) (f : HeadFits h) (s : List ℕ) (at : ℕ) (made : List Stru
           array = v;
           count = omega (arith, length-append rs (x ∷ []), r.count);
           few = omega (arith, r.count);
-          near = p.within;
-          joins = sym (rows_on (nets_of h) rs line (lines (drop t.next s)) g) ∙ ap (read_rows (nets_of h) rs) (sym p.line) ∙ r.joins;
+          joins = sym (rows_on (nets_of h) rs line (lines (drop e rest)) g) ∙ ap (read_rows (nets_of h) rs) (sym c.line) ∙ r.joins;
         }
 
-  pub rowed_done : length s ≤ a → record { no = 0; line = 0; matrix = record { value = h.value; columns = h.columns; rows = made; count = n } }
-      ≡ read_from (read_made (read_rows (nets_of h) [] (lines (drop at s))))
+  pub rowed_done : length rest ≡ 0 → record { no = 0; line = 0; matrix = record { value = h.value; columns = h.columns; rows = made; count = n } }
+      ≡ read_from (read_made (read_rows (nets_of h) [] (lines s)))
   unfolding lines read_rows
   rowed_done k =
       let rs = r.list in
-      let d : drop a s ≡ [] = drop_of_length-le s k in
+      let d : rest ≡ [] = none_of rest k in
       let m : Matrix = record { nets = nets_of h; rows = rs } in
-      let c : read_rows (nets_of h) rs (lines (drop a s)) ≡ whole m = ap (λ (l : List ℕ). read_rows (nets_of h) rs (lines l)) d in
+      let c : read_rows (nets_of h) rs (lines rest) ≡ whole m = ap (λ (l : List ℕ). read_rows (nets_of h) rs (lines l)) d in
       let v = ap (λ (x : Nets). x.value) f.tidy in
       let w = sym (width h f) in
       let u : made ≡ map from (vec rows_max zero_given (map spread_row rs)) =
       r.array ∙ sym (map-vec from rows_max zero_given (map spread_row rs) ∙ ap (vec rows_max (row_from bare)) (map_two rs)) in
       let e = r.count in
       (λ i. record { no = 0; line = 0; matrix = record { value = v i; columns = w i; rows = u i; count = e i } }) ∙ answer (whole m) c
+    where
+      none_of : (l : List ℕ) → length l ≡ 0 → l ≡ []
+      none_of [] q = refl
+      none_of (x ∷ l) q = absurd (omega arith)
 
 -- ---- the whole text
 
@@ -236,34 +248,29 @@ first-few l h =
     let low = all (λ (n : ℕ). not (over n)) ns in
     leb-true (length ns) columns_max (and_left (leb (length ns) columns_max) low (and_right (same (value_line ns) l) (leb (length ns) columns_max && low) h))
 
-module _ (s : List ℕ) (e : ℕ) (c : Cut s e) (t : Head) (q : t ≡ value_taken (take e s)) where
+module _ (s : List ℕ) (e : ℕ) (c : Cut s e) where
   abbrev first : List ℕ
   first = take e s
 
-  is_first : is_value_line first ≡ t.fine
-  unfolding value_taken
-  is_first = sym (ap (λ (x : Head). x.fine) q)
-
-  pub head-off : t.fine ≡ false → read_made (wrong 1) ≡ read_answer s
+  pub head-off : None ≡ value_taken first → read_made (wrong 1) ≡ read_answer s
   unfolding read read_answer
-  head-off z = ap read_made (sym (ap read_lines c.line ∙ first_off first (lines (drop e s)) (is_first ∙ z)))
+  head-off z = ap read_made (sym (ap read_lines c.line ∙ first_off first (lines (drop e s)) (untaken (is_value_line first) (nets_from (nets_in first)) z)))
 
-  module _ (z : t.fine ≡ true) where
-    head-nets : t.nets ≡ nets_from (nets_in first)
-    unfolding value_taken
-    head-nets = ap (λ (x : Head). x.nets) q ∙ ap (λ (b : Bool). nets_from (cond b (nets_in first) [])) (is_first ∙ z)
+  module _ (h : Nets) (z : Some h ≡ value_taken first) where
+    is_first : (is_value_line first ≡ true) × (h ≡ nets_from (nets_in first))
+    is_first = taken (is_value_line first) (nets_from (nets_in first)) h z
 
     head_few : length (nets_in first) ≤ columns_max
-    head_few = first-few first (is_first ∙ z)
+    head_few = first-few first is_first.0
 
-    head_is : nets_of t.nets ≡ nets_in first
-    head_is = ap nets_of head-nets ∙ take-vec columns_max 0 (nets_in first) head_few
+    head_is : nets_of h ≡ nets_in first
+    head_is = ap nets_of is_first.1 ∙ take-vec columns_max 0 (nets_in first) head_few
 
-    pub head-fits : HeadFits t.nets
-    head-fits = record { few = omega (arith, head_few, ap (λ (x : Nets). x.columns) head-nets); tidy = head-nets ∙ ap nets_from (sym head_is) }
+    pub head-fits : HeadFits h
+    head-fits = record { few = omega (arith, head_few, ap (λ (x : Nets). x.columns) is_first.1); tidy = is_first.1 ∙ ap nets_from (sym head_is) }
 
-    pub head_on : read_made (read_rows (nets_of t.nets) [] (lines (drop e s))) ≡ read_answer s
+    pub head_on : read_made (read_rows (nets_of h) [] (lines (drop e s))) ≡ read_answer s
     unfolding read read_answer
     head_on =
         ap (λ (ns : List ℕ). read_made (read_rows ns [] (lines (drop e s)))) head_is
-        ∙ ap read_made (sym (ap read_lines c.line ∙ first_on first (lines (drop e s)) (is_first ∙ z)))
+        ∙ ap read_made (sym (ap read_lines c.line ∙ first_on first (lines (drop e s)) is_first.0))

@@ -4,7 +4,7 @@ use borrow.Author.Tests.{eq-eqb, eqb-true, le-leb, leb-true, ltb-true}
 use lib.Dec.{eqb, leb}
 use lib.ListN.{get_or-append, get_or, length, length-append, length-reverse, take}
 use lib.Seq.{get_or-append-add, get_or-append_seam}
-use mathlib.Core.Bool.{Bool, true, false, cond, ◌&&◌}
+use mathlib.Core.Bool.{true, false, ◌&&◌}
 use mathlib.Core.List.{List, [], ◌∷◌, ◌++◌, append_assoc, reverse, reverse-cons}
 use mathlib.Core.Path.{◌≡◌, refl, sym, ap, ◌∙◌, subst}
 use native.Mathlib.Omega.{arith}
@@ -29,8 +29,9 @@ use Rattle.rules.specs.Trits.{is_trit}
 use Rattle.sets.specs.Sets.{list_of}
 use Rattle.text.proofs.Nets.{scan_few, scan_printed, scan_stop, word_front}
 use Rattle.text.specs.Scan.{figure_of, loose_row, pattern_at, rules_at, scanned, word_at}
-use Rattle.text.specs.Taken.{bare, row_taken}
-use Rattle.text.specs.declared.inner.scan.Word.{Word}
+use Rattle.std.proofs.Common.{Some, None}
+use Rattle.std.proofs.lemmas.Bool.{ne_eqb}
+use Rattle.text.specs.Taken.{row_taken}
 
 -- ---- the trits, whatever the line
 
@@ -48,6 +49,13 @@ pattern_at_lem (suc k) l zero h =
 pattern_at_lem (suc k) l (suc i) h =
     let e : suc k - 1 - suc i ≡ k - 1 - i = omega arith in
     ap (λ (j : ℕ). trit_in (get_or l (2 + j + j / 4) 0)) e ∙ pattern_at_lem k l i (omega arith)
+
+-- column i's trit, from the byte where it stands
+pub trit_at : (w : ℕ) (l : List ℕ) (i b : ℕ) → i < w → get_or l (2 + (w - 1 - i) + (w - 1 - i) / 4) 0 ≡ b → trit_in b ≡ get_or (pattern_at w l) i 0
+trit_at w l i b h e = ap trit_in (sym e) ∙ pattern_at_lem w l i h
+
+pub trit_else : (w : ℕ) (l : List ℕ) (i : ℕ) {b : ℕ} → i < w → (b ≡ 48 → ⊥) → (b ≡ 49 → ⊥) → get_or l (2 + (w - 1 - i) + (w - 1 - i) / 4) 0 ≡ b → 2 ≡ get_or (pattern_at w l) i 0
+trit_else w l i {b} h p q e = let n : trit_in b ≡ 2 = rw (ne_eqb b 48 p, ne_eqb b 49 q) refl in sym n ∙ trit_at w l i b h e
 
 trit_in_lem : (b : ℕ) → is_trit (trit_in b) ≡ true
 trit_in_lem b = by_bool (eqb b (byte "0")) (λ p. rw p) (λ p. rw p (by_bool (eqb b (byte "1")) (λ q. rw q) (λ q. rw q)))
@@ -146,7 +154,7 @@ names_back : (h rs : List ℕ) → length rs ≤ rules_max → all is_name rs �
 unfolding rule_text bytes word_at figure_of
 names_back h [] f a =
     let t : List ℕ = rule_text [] ++ (LF ∷ []) in
-    scan_stop rules_max (h ++ t) (length h) (ap (λ (w : Word). w.len) (word_front h t))
+    scan_stop rules_max (h ++ t) (length h) (word_front h t)
 names_back h (n ∷ ns) f a = scan_printed rules_max h (n ∷ ns) (LF ∷ []) f (names-low (n ∷ ns) a) refl refl
 
 loose_back : (w : ℕ) (q : Row) → length q.pattern ≡ w → all is_trit q.pattern ≡ true → length q.rules ≤ rules_max → all is_name q.rules ≡ true → loose_row w (row_line q) ≡ q
@@ -229,28 +237,21 @@ module _ (w : ℕ) (l : List ℕ) (s : Struct) (few : w ≤ columns_max) (e : s 
   unfolding loose_row
   row-few = subst (λ (q : Row). length (row_line q) ≤ row_max) (sym struct_row) (line_few (loose_row w l) (omega (arith, pattern_long w l)) (scan_few rules_max l (rules_at w)))
 
-  pub row_yes : all is_name (list_of s.rules) ≡ true → ascends (cells (list_of s.rules)) ≡ true → row_line (view s) ≡ l → record { fine = true; row = s } ≡ row_taken w l
-  unfolding row_taken
+  pub row_yes : all is_name (list_of s.rules) ≡ true → ascends (cells (list_of s.rules)) ≡ true → row_line (view s) ≡ l → Some s ≡ row_taken w l
   row_yes n c p =
       let names : all is_name (loose_row w l).rules ≡ true = ap (all is_name) (sym struct_names) ∙ n in
       let up : ascends (loose_row w l).rules ≡ true =
       ap ascends (sym (names-cells (loose_row w l).rules names)) ∙ ap (λ (k : List ℕ). ascends (cells k)) (sym struct_names) ∙ c in
       let t = is_row w l (ap row_line (sym struct_row) ∙ p) names up in
-      let f : true ≡ is_row_line w l = sym t.0 in
-      let q : s ≡ row_from (cond (is_row_line w l) (row_in l) bare) = e ∙ ap row_from (sym t.1) ∙ ap (λ (b : Bool). row_from (cond b (row_in l) bare)) f in
-      λ i. record { fine = f i; row = q i }
+      let q : s ≡ row_from (row_in l) = e ∙ ap row_from (sym t.1) in
+      rw t.0 (ap Some q)
 
   -- a test that a row's line passes, and this one does not
-  pub row_no : (z : Struct) → z ≡ row_from bare
-      → (all is_name (list_of s.rules) ≡ true → ascends (cells (list_of s.rules)) ≡ true → row_line (view s) ≡ l → ⊥) → record { fine = false; row = z } ≡ row_taken w l
-  unfolding row_taken
-  row_no z y h =
-      let f : false ≡ is_row_line w l = by_bool (is_row_line w l)
+  pub row_no : (all is_name (list_of s.rules) ≡ true → ascends (cells (list_of s.rules)) ≡ true → row_line (view s) ≡ l → ⊥) → None ≡ row_taken w l
+  row_no h =
+      let f : is_row_line w l ≡ false = by_bool (is_row_line w l)
       (λ b. let r = row_back w l b in
       let names = ap (all is_name) struct_names ∙ r.1 in
       absurd (h names (ap (λ (k : List ℕ). ascends (cells k)) struct_names ∙ ap ascends (names-cells (loose_row w l).rules r.1) ∙ r.2) (ap row_line struct_row ∙ r.0)))
-      (λ b. sym b) in
-      let q : z ≡ row_from (cond false (row_in l) bare) = y in
-      let u : row_from (cond false (row_in l) bare) ≡ row_from (cond (is_row_line w l) (row_in l) bare) = ap (λ (b : Bool). row_from (cond b (row_in l) bare)) f in
-      let v = q ∙ u in
-      λ i. record { fine = f i; row = v i }
+      (λ b. b) in
+      rw f

@@ -1,10 +1,9 @@
 -- The loose readers of nets: what a net's text gives, and what any text gives at most. Assumes nothing.
-use Prim.Native.Nat.{ℕ, zero, suc, ◌+◌, ◌*◌, ◌/◌, ◌%◌, ◌≤◌, ◌<◌}
+use Prim.Native.Nat.{ℕ, suc, ◌+◌, ◌-◌, ◌*◌, ◌/◌, ◌%◌, ◌≤◌, ◌<◌}
 use borrow.Author.Tests.{eq-eqb, le-ltb, lt-ltb, ltb-false, ne_eqb}
 use lib.Dec.{eqb, ltb}
 use lib.ListN.{get_or, length}
-use mathlib.Core.Bool.{false}
-use mathlib.Core.List.{List, [], ◌∷◌, ◌++◌}
+use mathlib.Core.List.{List, ◌∷◌, ◌++◌}
 use mathlib.Core.Path.{◌≡◌, sym, ap, ◌∙◌}
 use native.Mathlib.Omega.{arith}
 use Rattle.lists.specs.Bools.{by_bool}
@@ -14,190 +13,180 @@ use Rattle.rules.specs.Bounds.{mux_first}
 use Rattle.rules.specs.Bytes.{byte}
 use Rattle.rules.specs.Nets.{cell, first_mux}
 use Rattle.rules.specs.Print.{digit, digits}
-use Rattle.text.specs.Scan.{cell_at, cell_of, figure_of, no_word, word_at}
+use Rattle.std.proofs.Common.{Option, Some, None}
+use Rattle.std.proofs.lemmas.Option.{unwrap_or-slice_get}
+use Rattle.std.specs.List.{slice_get}
+use Rattle.std.specs.Option.{unwrap_or}
+use Rattle.text.specs.Scan.{cell_at, cell_of, figure_of, word_at}
+use Rattle.text.specs.declared.inner.scan.Word.{Word}
+
+-- ---- a place in a line
+
+-- what is read there, as a byte, and 0 past the end
+pub read_some : (s : List ℕ) (at b : ℕ) → slice_get s at ≡ Some b → get_or s at 0 ≡ b
+read_some s at b e = sym (unwrap_or-slice_get s at 0) ∙ ap (λ (o : Option ℕ). unwrap_or o 0) e
+
+pub read_none : (s : List ℕ) (at : ℕ) → slice_get s at ≡ None → get_or s at 0 ≡ 0
+read_none s at e = sym (unwrap_or-slice_get s at 0) ∙ ap (λ (o : Option ℕ). unwrap_or o 0) e
 
 -- ---- figures
 
-figure_digit : (n : ℕ) → figure_of (digit n) ≡ n % 10
+pub figure_some : (b : ℕ) → byte "0" ≤ b → b ≤ byte "9" → Some (b - byte "0") ≡ figure_of b
 unfolding figure_of
-figure_digit n =
-    let a : ltb (digit n) (byte "0") ≡ false = le-ltb (digit n) (byte "0") (omega arith) in
-    let b : ltb (byte "9") (digit n) ≡ false = le-ltb (byte "9") (digit n) (omega arith) in
-    rw (a, b) (omega arith)
+figure_some b h k = rw (le-ltb b (byte "0") h, le-ltb (byte "9") b k)
+
+pub figure_under : (b : ℕ) → b < byte "0" → None ≡ figure_of b
+unfolding figure_of
+figure_under b h = rw (lt-ltb b (byte "0") h)
+
+pub figure_over : (b : ℕ) → byte "9" < b → None ≡ figure_of b
+unfolding figure_of
+figure_over b h = let k : byte "0" ≤ b = omega arith in rw (le-ltb b (byte "0") k, lt-ltb (byte "9") b h)
+
+figure_digit : (n : ℕ) → figure_of (digit n) ≡ Some (n % 10)
+figure_digit n = let e : digit n - byte "0" ≡ n % 10 = omega arith in sym (figure_some (digit n) (omega arith) (omega arith)) ∙ ap Some e
 
 -- a text that starts with no figure
 abbrev pub NoFigure : List ℕ → Type 0
-NoFigure t = figure_of (get_or t 0 0) ≡ 10
+NoFigure t = figure_of (get_or t 0 0) ≡ None
 
--- ---- the cell of its figures
+-- under 10, if it is a figure
+abbrev Low : Option ℕ → Type 0
+Low None = Unit {0}
+Low (Some n) = n < 10
 
-module _ (a b c d : ℕ) where
-  cell_1 : a ≤ 9 → 9 < b → cell_of a b c d ≡ record { code = cell a; len = 3 }
-  unfolding cell_of
-  cell_1 h k = rw (le-ltb 9 a h, lt-ltb 9 b k)
+figure_low : (b : ℕ) → Low (figure_of b)
+unfolding figure_of
+figure_low b =
+    by_bool (ltb b (byte "0"))
+    (λ p. rw p tt)
+    (λ p. by_bool (ltb (byte "9") b)
+    (λ q. rw (p, q) tt)
+    (λ q. let h = ltb-false (byte "9") b q in rw (p, q) (omega arith)))
 
-  cell_2 : a ≤ 9 → b ≤ 9 → 9 < c → cell_of a b c d ≡ record { code = cell (a * 10 + b); len = 4 }
-  unfolding cell_of
-  cell_2 h i k = rw (le-ltb 9 a h, le-ltb 9 b i, lt-ltb 9 c k)
+-- ---- a net's word: its code is no mux's, and it is no longer than a net
 
-  cell_3 : a ≤ 9 → b ≤ 9 → c ≤ 9 → 9 < d → cell_of a b c d ≡ record { code = cell (a * 100 + b * 10 + c); len = 5 }
-  unfolding cell_of
-  cell_3 h i j k = rw (le-ltb 9 a h, le-ltb 9 b i, le-ltb 9 c j, lt-ltb 9 d k)
+abbrev pub Fine : Option Word → Type 0
+Fine None = Unit {0}
+Fine (Some w) = (w.code < first_mux) × (w.len ≤ net_long)
 
-  cell_4 : a ≤ 9 → b ≤ 9 → c ≤ 9 → d ≤ 9 → cell_of a b c d ≡ record { code = cell (a * 1000 + b * 100 + c * 10 + d); len = 6 }
-  unfolding cell_of
-  cell_4 h i j k = rw (le-ltb 9 a h, le-ltb 9 b i, le-ltb 9 c j, le-ltb 9 d k)
+cell_fine : (a b c d : Option ℕ) → Low a → Low b → Low c → Low d → Fine (cell_of a b c d)
+cell_fine None b c d h i j k = tt
+cell_fine (Some a) None c d h i j k = (omega arith, omega arith)
+cell_fine (Some a) (Some b) None d h i j k = (omega arith, omega arith)
+cell_fine (Some a) (Some b) (Some c) None h i j k = (omega arith, omega arith)
+cell_fine (Some a) (Some b) (Some c) (Some d) h i j k = (omega arith, omega arith)
 
-  cell-low : (cell_of a b c d).code < first_mux
-  unfolding cell_of
-  cell-low =
-      by_bool (ltb 9 a) (λ p. rw p (omega arith))
-      (λ p. let h = ltb-false 9 a p in
-      rw p (by_bool (ltb 9 b) (λ q. rw q (omega arith))
-      (λ q. let i = ltb-false 9 b q in
-      rw q (by_bool (ltb 9 c) (λ r. rw r (omega arith))
-      (λ r. let j = ltb-false 9 c r in
-      rw r (by_bool (ltb 9 d) (λ s. rw s (omega arith))
-      (λ s. let k = ltb-false 9 d s in rw s (omega arith))))))))
+pub word_fine : (s : List ℕ) (at : ℕ) → Fine (word_at s at)
+unfolding word_at cell_at
+word_fine s at =
+    let l = cell_fine (figure_of (get_or s (at + 2) 0)) (figure_of (get_or s (at + 2 + 1) 0)) (figure_of (get_or s (at + 2 + 2) 0)) (figure_of (get_or s (at + 2 + 3) 0)) (figure_low (get_or s (at + 2) 0)) (figure_low (get_or s (at + 2 + 1) 0)) (figure_low (get_or s (at + 2 + 2) 0)) (figure_low (get_or s (at + 2 + 3) 0)) in
+    by_bool (eqb (get_or s at 0) (byte " "))
+    (λ p. rw p (by_bool (eqb (get_or s (at + 1) 0) (byte "%")) (λ q. rw q l)
+    (λ q. rw q (by_bool (eqb (get_or s (at + 1) 0) (byte "0")) (λ r. rw r (omega arith, omega arith))
+    (λ r. rw r (by_bool (eqb (get_or s (at + 1) 0) (byte "1")) (λ u. rw u (omega arith, omega arith))
+    (λ u. rw u (by_bool (eqb (get_or s (at + 1) 0) (byte "X")) (λ v. rw v (omega arith, omega arith)) (λ v. rw v tt)))))))))
+    (λ p. rw p tt)
 
-  cell_short : (cell_of a b c d).len ≤ net_long
-  unfolding cell_of
-  cell_short =
-      by_bool (ltb 9 a) (λ p. rw p (omega arith))
-      (λ p. rw p (by_bool (ltb 9 b) (λ q. rw q (omega arith))
-      (λ q. rw q (by_bool (ltb 9 c) (λ r. rw r (omega arith))
-      (λ r. rw r (by_bool (ltb 9 d) (λ s. rw s (omega arith)) (λ s. rw s (omega arith))))))))
+-- ---- the cell of its figures, as they are found one by one
 
-module _ (s : List ℕ) (at a : ℕ) (ea : a ≡ figure_of (get_or s at 0)) where
-  pub cell_none : 9 < a → no_word ≡ cell_at s at
-  unfolding cell_at cell_of
-  cell_none h = rw (← ea, lt-ltb 9 a h)
+module _ (s : List ℕ) (at : ℕ) where
+  abbrev at0 : Option ℕ
+  at0 = figure_of (get_or s at 0)
 
-  module _ (b : ℕ) (eb : b ≡ figure_of (get_or s (at + 1) 0)) (h : a ≤ 9) where
-    pub cell_is_1 : 9 < b → record { code = 3 + a; len = 3 } ≡ cell_at s at
+  abbrev at1 : Option ℕ
+  at1 = figure_of (get_or s (at + 1) 0)
+
+  abbrev at2 : Option ℕ
+  at2 = figure_of (get_or s (at + 2) 0)
+
+  abbrev at3 : Option ℕ
+  at3 = figure_of (get_or s (at + 3) 0)
+
+  pub cell_none : None ≡ at0 → None ≡ cell_at s at
+  unfolding cell_at
+  cell_none e = ap (λ (o : Option ℕ). cell_of o at1 at2 at3) e
+
+  module _ (a : ℕ) (ea : Some a ≡ at0) where
+    pub cell_is_1 : None ≡ at1 → Some (record { code = 3 + a; len = 3 }) ≡ cell_at s at
     unfolding cell_at
-    cell_is_1 k = rw (← ea, ← eb) (sym (cell_1 a b (figure_of (get_or s (at + 2) 0)) (figure_of (get_or s (at + 3) 0)) h k))
+    cell_is_1 e = rw (← ea, ← e)
 
-    module _ (c : ℕ) (ec : c ≡ figure_of (get_or s (at + 2) 0)) (i : b ≤ 9) where
-      pub cell_is_2 : 9 < c → record { code = 3 + (a * 10 + b); len = 4 } ≡ cell_at s at
+    module _ (b : ℕ) (eb : Some b ≡ at1) where
+      pub cell_is_2 : None ≡ at2 → Some (record { code = 3 + (a * 10 + b); len = 4 }) ≡ cell_at s at
       unfolding cell_at
-      cell_is_2 k = rw (← ea, ← eb, ← ec) (sym (cell_2 a b c (figure_of (get_or s (at + 3) 0)) h i k))
+      cell_is_2 e = rw (← ea, ← eb, ← e)
 
-      module _ (d : ℕ) (ed : d ≡ figure_of (get_or s (at + 3) 0)) (j : c ≤ 9) where
-        pub cell_is_3 : 9 < d → record { code = 3 + (a * 100 + b * 10 + c); len = 5 } ≡ cell_at s at
+      module _ (c : ℕ) (ec : Some c ≡ at2) where
+        pub cell_is_3 : None ≡ at3 → Some (record { code = 3 + (a * 100 + b * 10 + c); len = 5 }) ≡ cell_at s at
         unfolding cell_at
-        cell_is_3 k = rw (← ea, ← eb, ← ec, ← ed) (sym (cell_3 a b c d h i j k))
+        cell_is_3 e = rw (← ea, ← eb, ← ec, ← e)
 
-        pub cell_is_4 : d ≤ 9 → record { code = 3 + (a * 1000 + b * 100 + c * 10 + d); len = 6 } ≡ cell_at s at
+        pub cell_is_4 : (d : ℕ) → Some d ≡ at3 → Some (record { code = 3 + (a * 1000 + b * 100 + c * 10 + d); len = 6 }) ≡ cell_at s at
         unfolding cell_at
-        cell_is_4 k = rw (← ea, ← eb, ← ec, ← ed) (sym (cell_4 a b c d h i j k))
+        cell_is_4 d e = rw (← ea, ← eb, ← ec, ← e)
 
 -- ---- a space and a net
 
-pub in_range : (s : List ℕ) (at b : ℕ) → b ≡ get_or s at 0 → 0 < b → at < length s
-in_range [] at b e h = absurd (omega arith)
-in_range (x ∷ s) zero b e h = omega arith
-in_range (x ∷ s) (suc at) b e h = omega (arith, in_range s at b e h)
-
-module _ (s : List ℕ) (at b : ℕ) (eb : b ≡ get_or s at 0) where
-  pub word_none : (b ≡ byte " " → ⊥) → no_word ≡ word_at s at
+module _ (s : List ℕ) (at b : ℕ) (eb : get_or s at 0 ≡ b) where
+  pub word_none : (b ≡ byte " " → ⊥) → None ≡ word_at s at
   unfolding word_at
-  word_none h = rw (← eb, ne_eqb b (byte " ") h)
+  word_none h = rw (eb, ne_eqb b (byte " ") h)
 
-  module _ (h : b ≡ byte " ") (d : ℕ) (ed : d ≡ get_or s (at + 1) 0) where
+  module _ (h : b ≡ byte " ") (d : ℕ) (ed : get_or s (at + 1) 0 ≡ d) where
     pub word_cell : d ≡ byte "%" → cell_at s (at + 2) ≡ word_at s at
     unfolding word_at
-    word_cell e = rw (← eb, ← ed, eq-eqb b (byte " ") h, eq-eqb d (byte "%") e)
+    word_cell e = rw (eb, ed, eq-eqb b (byte " ") h, eq-eqb d (byte "%") e)
 
-    module _ (n37 : d ≡ byte "%" → ⊥) where
-      pub word_0 : d ≡ byte "0" → record { code = 0; len = 2 } ≡ word_at s at
-      unfolding word_at
-      word_0 e = rw (← eb, ← ed, eq-eqb b (byte " ") h, ne_eqb d (byte "%") n37, eq-eqb d (byte "0") e)
+    pub word_0 : d ≡ byte "0" → Some (record { code = 0; len = 2 }) ≡ word_at s at
+    unfolding word_at
+    word_0 e = rw (eb, ed, eq-eqb b (byte " ") h, e)
 
-      module _ (n48 : d ≡ byte "0" → ⊥) where
-        pub word_1 : d ≡ byte "1" → record { code = 1; len = 2 } ≡ word_at s at
-        unfolding word_at
-        word_1 e = rw (← eb, ← ed, eq-eqb b (byte " ") h, ne_eqb d (byte "%") n37, ne_eqb d (byte "0") n48, eq-eqb d (byte "1") e)
+    pub word_1 : d ≡ byte "1" → Some (record { code = 1; len = 2 }) ≡ word_at s at
+    unfolding word_at
+    word_1 e = rw (eb, ed, eq-eqb b (byte " ") h, e)
 
-        module _ (n49 : d ≡ byte "1" → ⊥) where
-          pub word_x : d ≡ byte "X" → record { code = 2; len = 2 } ≡ word_at s at
-          unfolding word_at
-          word_x e = rw (← eb, ← ed, eq-eqb b (byte " ") h, ne_eqb d (byte "%") n37, ne_eqb d (byte "0") n48, ne_eqb d (byte "1") n49, eq-eqb d (byte "X") e)
+    pub word_x : d ≡ byte "X" → Some (record { code = 2; len = 2 }) ≡ word_at s at
+    unfolding word_at
+    word_x e = rw (eb, ed, eq-eqb b (byte " ") h, e)
 
-          pub word_no : (d ≡ byte "X" → ⊥) → no_word ≡ word_at s at
-          unfolding word_at
-          word_no e = rw (← eb, ← ed, eq-eqb b (byte " ") h, ne_eqb d (byte "%") n37, ne_eqb d (byte "0") n48, ne_eqb d (byte "1") n49, ne_eqb d (byte "X") e)
-
--- whatever stands there
-pub word_low : (s : List ℕ) (at : ℕ) → (word_at s at).code < first_mux
-unfolding word_at cell_at
-word_low s at =
-    let l = cell-low (figure_of (get_or s (at + 2) 0)) (figure_of (get_or s (at + 2 + 1) 0)) (figure_of (get_or s (at + 2 + 2) 0)) (figure_of (get_or s (at + 2 + 3) 0)) in
-    by_bool (eqb (get_or s at 0) (byte " "))
-    (λ p. rw p (by_bool (eqb (get_or s (at + 1) 0) (byte "%")) (λ q. rw q l)
-    (λ q. rw q (by_bool (eqb (get_or s (at + 1) 0) (byte "0")) (λ r. rw r (omega arith))
-    (λ r. rw r (by_bool (eqb (get_or s (at + 1) 0) (byte "1")) (λ u. rw u (omega arith))
-    (λ u. rw u (by_bool (eqb (get_or s (at + 1) 0) (byte "X")) (λ v. rw v (omega arith)) (λ v. rw v (omega arith))))))))))
-    (λ p. rw p (omega arith))
-
-pub word_short : (s : List ℕ) (at : ℕ) → (word_at s at).len ≤ net_long
-unfolding word_at cell_at
-word_short s at =
-    let l = cell_short (figure_of (get_or s (at + 2) 0)) (figure_of (get_or s (at + 2 + 1) 0)) (figure_of (get_or s (at + 2 + 2) 0)) (figure_of (get_or s (at + 2 + 3) 0)) in
-    by_bool (eqb (get_or s at 0) (byte " "))
-    (λ p. rw p (by_bool (eqb (get_or s (at + 1) 0) (byte "%")) (λ q. rw q l)
-    (λ q. rw q (by_bool (eqb (get_or s (at + 1) 0) (byte "0")) (λ r. rw r (omega arith))
-    (λ r. rw r (by_bool (eqb (get_or s (at + 1) 0) (byte "1")) (λ u. rw u (omega arith))
-    (λ u. rw u (by_bool (eqb (get_or s (at + 1) 0) (byte "X")) (λ v. rw v (omega arith)) (λ v. rw v (omega arith))))))))))
-    (λ p. rw p (omega arith))
+    pub word_no : (d ≡ byte "%" → ⊥) → (d ≡ byte "0" → ⊥) → (d ≡ byte "1" → ⊥) → (d ≡ byte "X" → ⊥) → None ≡ word_at s at
+    unfolding word_at
+    word_no p q r t = rw (eb, ed, eq-eqb b (byte " ") h, ne_eqb d (byte "%") p, ne_eqb d (byte "0") q, ne_eqb d (byte "1") r, ne_eqb d (byte "X") t)
 
 -- ---- the figures of a printed number
 
 module _ (n : ℕ) (t : List ℕ) (f : NoFigure t) where
-  printed_1 : n < 10 → cell_at (byte " " ∷ byte "%" ∷ digit n ∷ t) 2 ≡ record { code = cell n; len = 3 }
+  printed_1 : n < 10 → cell_at (byte " " ∷ byte "%" ∷ digit n ∷ t) 2 ≡ Some (record { code = cell n; len = 3 })
   unfolding cell_at
   printed_1 h =
-      let a = figure_digit n in
-      let e : figure_of (digit n) ≡ n = omega arith in
-      cell_1 (figure_of (digit n)) (figure_of (get_or t 0 0)) (figure_of (get_or t 1 0)) (figure_of (get_or t 2 0)) (omega arith) (omega arith)
-      ∙ ap (λ (x : ℕ). record { code = cell x; len = 3 }) e
+      let e : n % 10 ≡ n = omega arith in
+      rw (figure_digit n, f) (ap (λ (x : ℕ). Some (record { code = cell x; len = 3 })) e)
 
-  printed_2 : n < 100 → cell_at (byte " " ∷ byte "%" ∷ digit (n / 10) ∷ digit n ∷ t) 2 ≡ record { code = cell n; len = 4 }
+  printed_2 : n < 100 → cell_at (byte " " ∷ byte "%" ∷ digit (n / 10) ∷ digit n ∷ t) 2 ≡ Some (record { code = cell n; len = 4 })
   unfolding cell_at
   printed_2 h =
-      let a = figure_digit n in
-      let b = figure_digit (n / 10) in
-      let e : figure_of (digit (n / 10)) * 10 + figure_of (digit n) ≡ n = omega arith in
-      cell_2 (figure_of (digit (n / 10))) (figure_of (digit n)) (figure_of (get_or t 0 0)) (figure_of (get_or t 1 0)) (omega arith) (omega arith) (omega arith)
-      ∙ ap (λ (x : ℕ). record { code = cell x; len = 4 }) e
+      let e : n / 10 % 10 * 10 + n % 10 ≡ n = omega arith in
+      rw (figure_digit (n / 10), figure_digit n, f) (ap (λ (x : ℕ). Some (record { code = cell x; len = 4 })) e)
 
-  printed_3 : n < 1000 → cell_at (byte " " ∷ byte "%" ∷ digit (n / 100) ∷ digit (n / 10) ∷ digit n ∷ t) 2 ≡ record { code = cell n; len = 5 }
+  printed_3 : n < 1000 → cell_at (byte " " ∷ byte "%" ∷ digit (n / 100) ∷ digit (n / 10) ∷ digit n ∷ t) 2 ≡ Some (record { code = cell n; len = 5 })
   unfolding cell_at
   printed_3 h =
-      let a = figure_digit n in
-      let b = figure_digit (n / 10) in
-      let c = figure_digit (n / 100) in
       let p : n / 10 ≡ 10 * (n / 100) + n / 10 % 10 = omega arith in
       let q : n / 100 % 10 ≡ n / 100 = omega arith in
-      let e : figure_of (digit (n / 100)) * 100 + figure_of (digit (n / 10)) * 10 + figure_of (digit n) ≡ n = omega arith in
-      cell_3 (figure_of (digit (n / 100))) (figure_of (digit (n / 10))) (figure_of (digit n)) (figure_of (get_or t 0 0)) (omega arith) (omega arith) (omega arith) (omega arith)
-      ∙ ap (λ (x : ℕ). record { code = cell x; len = 5 }) e
+      let e : n / 100 % 10 * 100 + n / 10 % 10 * 10 + n % 10 ≡ n = omega arith in
+      rw (figure_digit (n / 100), figure_digit (n / 10), figure_digit n, f) (ap (λ (x : ℕ). Some (record { code = cell x; len = 5 })) e)
 
-  printed_4 : n < mux_first → cell_at (byte " " ∷ byte "%" ∷ digit (n / 1000) ∷ digit (n / 100) ∷ digit (n / 10) ∷ digit n ∷ t) 2 ≡ record { code = cell n; len = 6 }
+  printed_4 : n < mux_first → cell_at (byte " " ∷ byte "%" ∷ digit (n / 1000) ∷ digit (n / 100) ∷ digit (n / 10) ∷ digit n ∷ t) 2 ≡ Some (record { code = cell n; len = 6 })
   unfolding cell_at
   printed_4 h =
-      let a = figure_digit n in
-      let b = figure_digit (n / 10) in
-      let c = figure_digit (n / 100) in
-      let d = figure_digit (n / 1000) in
       let p : n / 10 ≡ 10 * (n / 100) + n / 10 % 10 = omega arith in
       let q : n / 100 ≡ 10 * (n / 1000) + n / 100 % 10 = omega arith in
       let r : n / 1000 % 10 ≡ n / 1000 = omega arith in
-      let e : figure_of (digit (n / 1000)) * 1000 + figure_of (digit (n / 100)) * 100 + figure_of (digit (n / 10)) * 10 + figure_of (digit n) ≡ n = omega arith in
-      cell_4 (figure_of (digit (n / 1000))) (figure_of (digit (n / 100))) (figure_of (digit (n / 10))) (figure_of (digit n)) (omega arith) (omega arith) (omega arith) (omega arith)
-      ∙ ap (λ (x : ℕ). record { code = cell x; len = 6 }) e
+      let e : n / 1000 % 10 * 1000 + n / 100 % 10 * 100 + n / 10 % 10 * 10 + n % 10 ≡ n = omega arith in
+      rw (figure_digit (n / 1000), figure_digit (n / 100), figure_digit (n / 10), figure_digit n) (ap (λ (x : ℕ). Some (record { code = cell x; len = 6 })) e)
 
-  pub cell-printed : n < mux_first → cell_at (byte " " ∷ byte "%" ∷ (digits n ++ t)) 2 ≡ record { code = cell n; len = suc (suc (length (digits n))) }
+  pub cell-printed : n < mux_first → cell_at (byte " " ∷ byte "%" ∷ (digits n ++ t)) 2 ≡ Some (record { code = cell n; len = suc (suc (length (digits n))) })
   cell-printed h =
       by_order n 10
       (λ l. rw (digits_1 n l) (printed_1 l))

@@ -12,10 +12,9 @@ use native.Mathlib.Numerals.{add-one}
 use native.Mathlib.Omega.{arith}
 use Rattle.lists.specs.Bools.{and_left, and_right}
 use Rattle.lists.specs.Lists.{all}
-use Rattle.print.proofs.Prints.{put_front}
 use Rattle.rules.proofs.Stores.{fine-fit}
 use Rattle.rules.proofs.Words.{names-low}
-use Rattle.rules.specs.Answers.{print_tree_after, print_tree_answer}
+use Rattle.rules.specs.Answers.{check_answer, print_tree_after, print_tree_answer}
 use Rattle.rules.specs.Bounds.{node_run, nodes_max, rules_max}
 use Rattle.rules.specs.Given.{ascends}
 use Rattle.rules.specs.Nets.{is_name}
@@ -24,10 +23,11 @@ use Rattle.rules.specs.Refusals.{all_low, tree_in}
 use Rattle.rules.specs.Refuse.{FORM, ROOM, done, refused}
 use Rattle.rules.specs.Store.{is_none, tree_at}
 use Rattle.rules.specs.Tree.{Fit, Tree, fine, leaf, node, size}
-use Rattle.text.proofs.Lays.{arm_leaf, branch_long, end_few, head_few, indent_long, laid_as, laid_then}
+use Rattle.text.proofs.Lays.{arm_leaf, branch_long, end_few, head_few, indent_long, lays_as, lays_then, put_front}
 use Rattle.text.specs.Longs.{line_max, tree_max}
-use Rattle.text.specs.Trees.{Laid, LeafFits, branch_line, last_rules, rule_end}
-use Rattle.tree.proofs.Handed.{handed_ends, tree_handed}
+use Rattle.text.specs.Trees.{Laid, Lays, LeafFits, branch_line, last_rules, rule_end}
+use Rattle.text.specs.declared.inner.trees.Sheet.{Sheet}
+use Rattle.tree.proofs.Handed.{check_none, handed_ends, tree_handed, unchecked}
 use Rattle.tree.proofs.Tails.{ends_long, ends_run, leaf_few, leaf_rules}
 use Rattle.tree.specs.Form.{Ends, HasTree, RootOf}
 use Rattle.tree.specs.declared.inner.Root.TheVariants.{Leaf}
@@ -76,12 +76,12 @@ module _ (level t b at u : ℕ) (w z o : Tree) (is : w ≡ node u z o) (fits : a
   pub one-fits : (a c : ℕ) → a ≡ at + length (branch_line level t b) → c ≡ a + length (arm (level + 1) u 0 z) → c + length (arm (level + 1) u 1 o) ≤ tree_max
   one-fits a c e f = omega (arith, whole, e, f)
 
-pub laid_node : (level t b u : ℕ) (w z o : Tree) {d e f g : List ℕ} {at a c r : ℕ} → w ≡ node u z o → length e ≡ length d → length f ≡ length e
-    → Laid d at (branch_line level t b) e a → Laid e a (arm (level + 1) u 0 z) f c → Laid f c (arm (level + 1) u 1 o) g r → Laid d at (arm level t b w) g r
-laid_node level t b u w z o is l m p q s = laid_as (sym (ap (arm level t b) is ∙ arm_node level t b u z o)) (laid_then l p (laid_then m q s))
+pub lays_node : (level t b u : ℕ) (w z o : Tree) {d e f g : Sheet} → w ≡ node u z o
+    → Lays d e (branch_line level t b) → Lays e f (arm (level + 1) u 0 z) → Lays f g (arm (level + 1) u 1 o) → Lays d g (arm level t b w)
+lays_node level t b u w z o is p q s = lays_as (sym (ap (arm level t b) is ∙ arm_node level t b u z o)) (lays_then p (lays_then q s))
 
-pub laid_leaf : (level t b : ℕ) (w : Tree) (xs : List ℕ) (n : ℕ) {d e : List ℕ} {at r : ℕ} → LeafRead w xs n → Laid d at (arm level t b (leaf (last_rules xs n))) e r → Laid d at (arm level t b w) e r
-laid_leaf level t b w xs n h p = laid_as (sym (ap (arm level t b) h.is)) p
+pub lays_leaf : (level t b : ℕ) (w : Tree) (xs : List ℕ) (n : ℕ) (rs : List ℕ) {d e : Sheet} → LeafRead w xs n → rs ≡ last_rules xs n → Lays d e (arm level t b (leaf rs)) → Lays d e (arm level t b w)
+lays_leaf level t b w xs n rs h q p = lays_as (ap (λ (l : List ℕ). arm level t b (leaf l)) q ∙ sym (ap (arm level t b) h.is)) p
 
 -- ---- how long the lines of a tree are at most
 
@@ -115,9 +115,9 @@ module _ (u : ℕ) (w z o : Tree) (xs : List ℕ) (is : w ≡ node u z o) (ends 
   pub second_fits : (a : ℕ) → a ≡ 0 + length (arm 0 u 0 z) → a + length (arm 0 u 1 o) ≤ tree_max
   second_fits a e = omega (arith, both, e)
 
-pub laid_arms : (u : ℕ) (w z o : Tree) {d e f : List ℕ} {a r : ℕ} → w ≡ node u z o → length e ≡ length d → Laid d 0 (arm 0 u 0 z) e a → Laid e a (arm 0 u 1 o) f r → Laid d 0 (printed_tree w) f r
+pub lays_arms : (u : ℕ) (w z o : Tree) {d e f : Sheet} → w ≡ node u z o → Lays d e (arm 0 u 0 z) → Lays e f (arm 0 u 1 o) → Lays d f (printed_tree w)
 unfolding printed_tree
-laid_arms u w z o is l p q = laid_as (sym (ap printed_tree is)) (laid_then l p q)
+lays_arms u w z o is p q = lays_as (sym (ap printed_tree is)) (lays_then p q)
 
 -- ---- the public call
 
@@ -125,9 +125,14 @@ abbrev pub CanWalk : List ℕ → ℕ → Type 0
 CanWalk store root = HasTree (take (node_run * (root + 1)) store) × (length (take (node_run * (root + 1)) store) ≤ node_run * nodes_max)
 
 module _ (store : List ℕ) (root : ℕ) (out : List ℕ) where
-  pub tree-form : is_none (tree_at store root) ≡ true → (refused FORM ≡ print_tree_answer store root out) × (out ≡ print_tree_after store root out)
+  -- the check of the tree gives a number, which is FORM's
+  pub tree-unfit : (n : ℕ) → check_answer store root ≡ refused n → (refused n ≡ print_tree_answer store root out) × (out ≡ print_tree_after store root out)
   unfolding print_tree_answer print_tree_after
-  tree-form e = (rw e, rw e)
+  tree-unfit n e =
+      let none = unchecked store root n e in
+      let f : refused n ≡ refused FORM = sym e ∙ check_none store root none in
+      let i = ap is_none none in
+      (f ∙ rw i, rw i)
 
   module _ (there : tree_at store root ≡ some (tree_in store root)) where
     abbrev text : List ℕ
@@ -156,5 +161,5 @@ module _ (store : List ℕ) (root : ℕ) (out : List ℕ) where
         let n = ap is_none there in
         let l = le-ltb (length out) (length text) (omega (arith, h, p.next)) in
         let i : need ≡ length text = omega (arith, p.next) in
-        let t : f ≡ text ++ drop (length text) out = put_front out text f r (record { next = q.next; text = q.text (omega (arith, h, p.next)) }) in
+        let t : f ≡ text ++ drop (length text) out = q.text (omega (arith, h, p.next)) ∙ put_front out text in
         (rw (n, l) (ap done i), rw (n, l) t)

@@ -9,14 +9,10 @@ ghost use Rattle.text.specs.Calls.{printed_read, read_from};
 
 pub mod inner;
 
-// How many bytes were written, or 01's number.
-#[derive(Clone, Copy)]
-pub enum Printed {
-    Done(usize),
-    Refused(u8),
-}
+use print::inner::put::Text;
+use rules::{Place, Refusal};
 
-// 0 and 0 where a matrix was read; else 01's number and the line, and the matrix without columns and rows.
+// 0 and 0 where a matrix was read; else 01's number and the line, and the matrix without columns and rows. C reads the fields as they stand.
 #[repr(C)]
 #[derive(Clone, Copy)]
 pub struct ReadMade {
@@ -28,52 +24,47 @@ pub struct ReadMade {
 // The bytes of the longest printed matrix.
 pub const TEXT_MAX: usize = inner::parse::VALUE_MAX + rules::ROWS_MAX * inner::parse::ROW_MAX;
 
-pub fn print(matrix: matrix::Matrix, out: &mut [u8]) -> Printed
+// How many bytes were written.
+pub fn print(matrix: matrix::Matrix, out: &mut [u8]) -> Result<usize, Refusal>
     ensures result_value { printed_read result ≡ print_answer (given matrix) out.old }
     ensures out_after { out.new ≡ print_after (given matrix) out.old }
 {
-    let no = matrix::inner::check::check(matrix);
-    if no != 0 {
-        return Printed::Refused(no);
-    }
-    let mut text = [0u8; TEXT_MAX];
-    let n = print::inner::lines::whole(&mut text, 0, matrix);
+    matrix::inner::check::check(&matrix)?;
+    let mut text: Text<TEXT_MAX> = Text::new();
+    text.matrix(&matrix);
+    let bytes = text.as_bytes();
+    let n = bytes.len();
     if out.len() < n {
-        return Printed::Refused(rules::ROOM);
+        return Err(Refusal::Room);
     }
-    print::inner::put::bytes(out, 0, &text[..n]);
-    Printed::Done(n)
+    out[..n].copy_from_slice(bytes);
+    Ok(n)
 }
 
 // The whole need is known before the first byte: the walk that writes has counted before.
-pub fn print_tree(store: &[u16], root: rules::Place, out: &mut [u8]) -> Printed
+pub fn print_tree(store: &[u16], root: Place, out: &mut [u8]) -> Result<usize, Refusal>
     ensures result_value { printed_read result ≡ print_tree_answer store.now root.0 out.old }
     ensures out_after { out.new ≡ print_tree_after store.now root.0 out.old }
 {
-    let tree::Checked::Tree(_) = tree::check(store, root) else {
-        return Printed::Refused(rules::FORM);
-    };
-    let k = tree::inner::NODE_RUN * (root.0 + 1);
-    let mut none = [0u8; 1];
-    let need = inner::trees::whole(&store[..k], &mut none);
+    tree::check(store, root)?;
+    let entries = &store[..tree::inner::NODE_RUN * (root.0 + 1)];
+    let need = inner::trees::whole(entries, &mut []);
     if out.len() < need {
-        return Printed::Refused(rules::ROOM);
+        return Err(Refusal::Room);
     }
-    inner::trees::whole(&store[..k], out);
-    Printed::Done(need)
+    inner::trees::whole(entries, out);
+    Ok(need)
 }
 
 pub fn read(text: &[u8]) -> ReadMade
     ensures { result ≡ read_from (read_answer text.now) }
 {
-    if text.len() == 0 {
+    if text.is_empty() {
         return inner::reader::wrong(1);
     }
-    let e = inner::reader::end(text);
-    let head = inner::parse::value(&text[..e]);
-    if !head.fine {
+    let (line, rest) = text.split_at(inner::reader::end(text));
+    let Some(head) = inner::parse::value(line) else {
         return inner::reader::wrong(1);
-    }
-    let nets = head.nets;
-    inner::reader::body(text, e, nets)
+    };
+    inner::reader::body(rest, head)
 }

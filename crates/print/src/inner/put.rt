@@ -1,32 +1,29 @@
-// Bytes, numbers and nets into a lent buffer: each printer puts its text at a place and answers the place after it.
-ghost use Rattle.std.specs.Prelude.{[], ◌∷◌, true, ◌≡◌, ◌/◌, ◌<◌};
-ghost use Rattle.print.specs.Put.{Put, Room};
-ghost use Rattle.print.specs.Texts.{downs as downs_of, spaced as spaced_of};
+// A text in the making: bytes, numbers and nets, each put behind what stands there.
+// They are put by hand and not through `Display`, whose every call may fail: of a text it is proved that there is room.
+ghost use Rattle.std.specs.Prelude.{◌≡◌, ℕ, ◌+◌, ◌<◌, ◌≤◌, List, [], ◌∷◌, ◌++◌, length, take};
+ghost use Rattle.print.specs.Texts.{lead as lead_of, spaced as spaced_of};
 ghost use Rattle.rules.specs.Bounds.{mux_first};
 ghost use Rattle.rules.specs.Codes.{trit_code};
 ghost use Rattle.rules.specs.Nets.{first_mux};
-ghost use Rattle.rules.specs.Print.{digit, digits, net as net_of, nets as nets_of, trit as trit_of};
-ghost use Rattle.rules.specs.Refusals.{all_low};
+ghost use Rattle.rules.specs.Print.{digit, digits, net as net_of, trit as trit_of};
 
-pub fn byte(out: &mut [u8], at: usize, b: u8) -> usize
-    requires { Room out.old at (b ∷ []) }
-    ensures { Put out.old at (b ∷ []) out.new result }
-{
-    out[at] = b;
-    at + 1
+use rules::{Net, Trit};
+use std::marker::Model;
+
+// At most N bytes; what a text has after its length is no part of it.
+#[derive(Drop)]
+pub struct Text<const N: usize> {
+    bytes: [u8; N],
+    len: usize,
 }
 
-pub fn bytes(out: &mut [u8], at: usize, src: &[u8]) -> usize
-    requires { Room out.old at src.now }
-    ensures { Put out.old at src.now out.new result }
-{
-    let mut i = 0;
-    let mut a = at;
-    while i < src.len() {
-        a = byte(out, a, src[i]);
-        i += 1;
-    }
-    a
+// Clauses see the bytes that were put, first to last.
+impl<const N: usize> Model for Text<N> {
+    ghost Value = { List ℕ };
+
+    ghost view = { λ t. take t.len t.bytes };
+
+    ghost invariant = { λ t. t.len ≤ N };
 }
 
 // The last figure of n.
@@ -36,93 +33,94 @@ fn figure(n: u16) -> u8
     b'0' + (n % 10) as u8
 }
 
-// The last two figures of n.
-fn figures(out: &mut [u8], at: usize, n: u16) -> usize
-    requires { Room out.old at (digit (n / 10) ∷ digit n ∷ []) }
-    ensures { Put out.old at (digit (n / 10) ∷ digit n ∷ []) out.new result }
-{
-    let a = byte(out, at, figure(n / 10));
-    byte(out, a, figure(n))
-}
-
-pub fn number(out: &mut [u8], at: usize, n: u16) -> usize
-    requires n_lt_mux_first { n < mux_first }
-    requires room { Room out.old at (digits n) }
-    ensures { Put out.old at (digits n) out.new result }
-{
-    if n < 10 {
-        return byte(out, at, figure(n));
-    }
-    if n < 100 {
-        return figures(out, at, n);
-    }
-    if n < 1000 {
-        let a = byte(out, at, figure(n / 100));
-        return figures(out, a, n);
-    }
-    let a = figures(out, at, n / 100);
-    figures(out, a, n)
-}
-
-pub fn trit(t: rules::Trit) -> u8
+pub fn trit(t: Trit) -> u8
     ensures { result ≡ trit_of (trit_code t) }
 {
     match t {
-        rules::Trit::Zero => b'0',
-        rules::Trit::One => b'1',
-        rules::Trit::Undef => b'X',
+        Trit::Zero => b'0',
+        Trit::One => b'1',
+        Trit::Undef => b'X',
     }
 }
 
-pub fn net(out: &mut [u8], at: usize, n: u16) -> usize
-    requires n_lt_first_mux { n < first_mux }
-    requires room { Room out.old at (net_of n) }
-    ensures { Put out.old at (net_of n) out.new result }
-{
-    let x = trits::inner::net(n);
-    match x {
-        rules::Net::Const(t) => byte(out, at, trit(t)),
-        rules::Net::Cell(k) => {
-            let a = byte(out, at, b'%');
-            number(out, a, k.0)
+impl<const N: usize> Text<N> {
+    pub fn new() -> Self
+        ensures { result ≡ [] }
+    {
+        Text {
+            bytes: [0; N],
+            len: 0,
         }
     }
-}
 
-fn spaced(out: &mut [u8], at: usize, n: u16) -> usize
-    requires n_lt_first_mux { n < first_mux }
-    requires room { Room out.old at (spaced_of n) }
-    ensures { Put out.old at (spaced_of n) out.new result }
-{
-    let a = byte(out, at, b' ');
-    net(out, a, n)
-}
-
-pub fn nets(out: &mut [u8], at: usize, ns: &[u16]) -> usize
-    requires low { all_low ns.now ≡ true }
-    requires room { Room out.old at (nets_of ns.now) }
-    ensures { Put out.old at (nets_of ns.now) out.new result }
-{
-    let mut i = 0;
-    let mut a = at;
-    while i < ns.len() {
-        a = spaced(out, a, ns[i]);
-        i += 1;
+    pub fn as_bytes(&self) -> &[u8]
+        ensures { result.now ≡ self.now }
+    {
+        &self.bytes[..self.len]
     }
-    a
-}
 
-// From the highest column to the lowest.
-pub fn downs(out: &mut [u8], at: usize, ns: &[u16]) -> usize
-    requires low { all_low ns.now ≡ true }
-    requires room { Room out.old at (downs_of ns.now) }
-    ensures { Put out.old at (downs_of ns.now) out.new result }
-{
-    let mut i = ns.len();
-    let mut a = at;
-    while 0 < i {
-        i -= 1;
-        a = spaced(out, a, ns[i]);
+    pub fn byte(&mut self, b: u8)
+        requires { length self.old + 1 ≤ N }
+        ensures { self.new ≡ self.old ++ b ∷ [] }
+    {
+        self.bytes[self.len] = b;
+        self.len += 1;
     }
-    a
+
+    pub fn bytes(&mut self, src: &[u8])
+        requires { length self.old + length src.now ≤ N }
+        ensures { self.new ≡ self.old ++ src.now }
+    {
+        let at = self.len;
+        let end = at + src.len();
+        let all = &mut self.bytes[..];
+        all[at..end].copy_from_slice(src);
+        self.len = end;
+    }
+
+    // The figure of n's thousands, hundreds or tens, where n has as many.
+    fn lead(&mut self, n: u16, unit: u16)
+        requires unit_pos { 0 < unit }
+        requires room { length self.old + length (lead_of n unit) ≤ N }
+        ensures { self.new ≡ self.old ++ lead_of n unit }
+    {
+        if unit <= n {
+            self.byte(figure(n / unit));
+        }
+    }
+
+    fn number(&mut self, n: u16)
+        requires n_lt_mux_first { n < mux_first }
+        requires room { length self.old + length (digits n) ≤ N }
+        ensures { self.new ≡ self.old ++ digits n }
+    {
+        self.lead(n, 1000);
+        self.lead(n, 100);
+        self.lead(n, 10);
+        self.byte(figure(n));
+    }
+
+    pub fn net(&mut self, n: u16)
+        requires n_lt_first_mux { n < first_mux }
+        requires room { length self.old + length (net_of n) ≤ N }
+        ensures { self.new ≡ self.old ++ net_of n }
+    {
+        match Net::from(n) {
+            Net::Const(t) => self.byte(trit(t)),
+            Net::Cell(k) => {
+                self.byte(b'%');
+                self.number(k.0);
+            }
+        }
+    }
+
+    // A space and a net.
+    pub fn spaced(&mut self, n: u16)
+        requires n_lt_first_mux { n < first_mux }
+        requires room { length self.old + length (spaced_of n) ≤ N }
+        ensures { self.new ≡ self.old ++ spaced_of n }
+    {
+        self.byte(b' ');
+        self.net(n);
+    }
 }

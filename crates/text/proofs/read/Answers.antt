@@ -1,34 +1,25 @@
-use borrow.Author.Tests.{not-false, not-true}
-use lib.Seq.{length-take-le}
-use mathlib.Core.Path.{ap, sym, ◌∙◌}
-use native.Mathlib.Omega.{arith}
+use Rattle.std.proofs.Common.{ℕ, List, [], take, ap, sym, ◌∙◌, eqb-true}
+use Rattle.rules.specs.Answers.{read_made}
+use Rattle.rules.specs.Read.{lines, read_rows}
 use Rattle.text.proofs.Reader.{head-fits, head-off, head_on, none_read}
 use Rattle.text.specs.Calls.{read_from}
+use Rattle.text.specs.Taken.{value_taken}
 use Rattle.text.proofs.read.Goals as goal
 
-pub wrong-requires : goal.wrong-requires
-wrong-requires c = tt
+pub returns-then-is_empty : goal.returns-then-is_empty
+returns-then-is_empty c = c.wrong.ensures ∙ ap read_from (none_read c.args.text.now (eqb-true _ _ (sym c.if-is_empty.ensures)))
 
-pub returns-then-text-eq0 : goal.returns-then-text-eq0
-returns-then-text-eq0 c = c.wrong.ensures ∙ ap read_from (none_read c.args.text.now c.if-text-eq0.true)
-
-pub end-e-requires : goal.end-e-requires
-end-e-requires c = omega (arith, c.if-text-eq0.false)
-
-pub slice_bounds-value-end : goal.slice_bounds-value-end
-slice_bounds-value-end c = sym (length-take-le c.end-e.result c.args.text.now c.end-e.ensures.within)
-
-pub value-head-requires : goal.value-head-requires
-value-head-requires c = tt
-
-pub wrong-requires-then-not-head : goal.wrong-requires-then-not-head
-wrong-requires-then-not-head c = tt
-
-pub returns-then-not-head : goal.returns-then-not-head
-returns-then-not-head c = c.wrong-then-not-head.ensures ∙ ap read_from (head-off c.args.text.now c.end-e.result c.end-e.ensures c.value-head.result c.value-head.ensures (not-true _ c.if-not-head.true))
+pub returns-in_default : goal.returns-in_default
+returns-in_default c =
+    let z = c.in_default.ensures ∙ ap value_taken c.split_at.ensures.front in
+    c.wrong-in_default.ensures ∙ ap read_from (head-off c.args.text.now c.end.result c.end.ensures z)
 
 pub body-requires : goal.body-requires
-body-requires c = record { at_in_bounds = c.end-e.ensures.within; head_fits = head-fits c.args.text.now c.end-e.result c.end-e.ensures c.value-head.result c.value-head.ensures (not-false _ c.if-not-head.false) }
+body-requires c = head-fits c.args.text.now c.end.result c.end.ensures c.in-Some.head (c.in-Some.ensures ∙ ap value_taken c.split_at.ensures.front)
 
 pub returns : goal.returns
-returns c = c.body.ensures ∙ ap read_from (head_on c.args.text.now c.end-e.result c.end-e.ensures c.value-head.result c.value-head.ensures (not-false _ c.if-not-head.false))
+returns c =
+    let z = c.in-Some.ensures ∙ ap value_taken c.split_at.ensures.front in
+    let h = c.in-Some.head in
+    c.body.ensures ∙ ap (λ (l : List ℕ). read_from (read_made (read_rows (take h.columns h.value) [] (lines l)))) c.split_at.ensures.back
+    ∙ ap read_from (head_on c.args.text.now c.end.result c.end.ensures h z)

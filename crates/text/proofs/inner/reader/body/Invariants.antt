@@ -1,10 +1,9 @@
-use Prim.Native.Nat.{◌-◌}
-use lib.ListN.{length}
+use Rattle.std.proofs.Common.{length}
 use Rattle.text.proofs.Reader.{Rowed}
 use Rattle.text.proofs.inner.reader.body.Given as goal
 
-abbrev pub invariant-loop-a : goal.invariant-loop-a
-invariant-loop-a l = Rowed (record { value = l.v; columns = l.w }) l.text l.at l.made l.n l.a
+abbrev pub invariant-loop-rest : goal.invariant-loop-rest
+invariant-loop-rest l = Rowed l.fn.head l.text l.rows l.count l.rest
 
-abbrev pub decreases-loop-a : goal.decreases-loop-a
-decreases-loop-a l = length l.text - l.a
+abbrev pub decreases-loop-rest : goal.decreases-loop-rest
+decreases-loop-rest l = length l.rest

@@ -1,28 +1,17 @@
-use mathlib.Core.Path.{refl}
-use native.Mathlib.Omega.{arith}
-use Rattle.text.proofs.Reader.{cut_end, cut-lf, solid_more}
+use Rattle.std.proofs.Common.{rules, ◌≡◌, ℕ, eqb}
+use borrow.Author.Tests.{tests}
+use Rattle.std.proofs.lemmas.Iterator.{YieldsList-from_slice}
+use Rattle.std.proofs.lemmas.Iterator.Search.{position_from_yields_List}
+use Rattle.std.specs.List.{position}
+use Rattle.text.proofs.Reader.{end_found, end_missing}
 use Rattle.text.proofs.inner.reader.end.Goals as goal
 
-pub loop-i-init : goal.loop-i-init
-loop-i-init c = (omega arith, refl)
+pub returns-in-Some : goal.returns-in-Some
+returns-in-Some c =
+    let e : c.position.result ≡ position (λ (x : ℕ). eqb x 10) c.args.s.now = position_from_yields_List (λ (x : ℕ). eqb x 10) _ _ c.position.result c.position.ensures.ran (YieldsList-from_slice c.args.s.now cc) (λ x b q k. search (rules, tests)) in
+    end_found c.args.s.now c.requires c.position.result e c.in-Some.i c.in-Some.is
 
-pub bounds-s-i : goal.bounds-s-i
-bounds-s-i c = omega arith
-
-pub overflow_add-result : goal.overflow_add-result
-overflow_add-result c = omega arith
-
-pub returns-then-s-i-eq10 : goal.returns-then-s-i-eq10
-returns-then-s-i-eq10 c = cut-lf c.args.s.now c.loop-i.i c.loop-i.invariant.1 c.loop-i-test.true c.if-s-i-eq10.true
-
-pub overflow_add-i : goal.overflow_add-i
-overflow_add-i c = omega arith
-
-pub loop-i-smaller : goal.loop-i-smaller
-loop-i-smaller c = omega arith
-
-pub loop-i-preserved : goal.loop-i-preserved
-loop-i-preserved c = (omega (arith, c.loop-i-test.true), solid_more c.args.s.now c.loop-i.i c.loop-i.invariant.1 c.loop-i-test.true c.if-s-i-eq10.false)
-
-pub returns : goal.returns
-returns c = cut_end c.args.s.now c.loop-i.i c.loop-i.invariant.1 c.requires c.loop-i-test.false c.loop-i.invariant.0
+pub returns-in-None : goal.returns-in-None
+returns-in-None c =
+    let e : c.position.result ≡ position (λ (x : ℕ). eqb x 10) c.args.s.now = position_from_yields_List (λ (x : ℕ). eqb x 10) _ _ c.position.result c.position.ensures.ran (YieldsList-from_slice c.args.s.now cc) (λ x b q k. search (rules, tests)) in
+    end_missing c.args.s.now c.requires c.position.result e c.in-None.is

@@ -1,17 +1,18 @@
+use Rattle.std.proofs.Common.{◌∙◌}
 use Rattle.text.proofs.Scans.{cell_is_1, cell_is_2, cell_is_3, cell_is_4, cell_none}
 use Rattle.text.proofs.inner.scan.cell.Goals as goal
 
-pub returns-then-a-gt9 : goal.returns-then-a-gt9
-returns-then-a-gt9 c = cell_none c.args.s.now c.args.at c.figure-a.result c.figure-a.ensures c.if-a-gt9.true
+pub returns-in_err-a : goal.returns-in_err-a
+returns-in_err-a c = c.from_residual.ensures ∙ cell_none c.args.s.now c.args.at c.in_err-a.ensures.value
 
-pub returns-then-b-gt9 : goal.returns-then-b-gt9
-returns-then-b-gt9 c = cell_is_1 c.args.s.now c.args.at c.figure-a.result c.figure-a.ensures c.figure-b.result c.figure-b.ensures c.if-a-gt9.false c.if-b-gt9.true
+pub returns-in_default : goal.returns-in_default
+returns-in_default c = cell_is_1 c.args.s.now c.args.at c.in_ok-a.a c.in_ok-a.ensures.value c.in_default.ensures.value
 
-pub returns-then-c-gt9 : goal.returns-then-c-gt9
-returns-then-c-gt9 c = cell_is_2 c.args.s.now c.args.at c.figure-a.result c.figure-a.ensures c.figure-b.result c.figure-b.ensures c.if-a-gt9.false c.figure-c.result c.figure-c.ensures c.if-b-gt9.false c.if-c-gt9.true
+pub returns-in_default-figure : goal.returns-in_default-figure
+returns-in_default-figure c = cell_is_2 c.args.s.now c.args.at c.in_ok-a.a c.in_ok-a.ensures.value c.in-Some.b c.in-Some.ensures.value c.in_default-figure.ensures.value
 
-pub returns-then-d-gt9 : goal.returns-then-d-gt9
-returns-then-d-gt9 c = cell_is_3 c.args.s.now c.args.at c.figure-a.result c.figure-a.ensures c.figure-b.result c.figure-b.ensures c.if-a-gt9.false c.figure-c.result c.figure-c.ensures c.if-b-gt9.false c.figure-d.result c.figure-d.ensures c.if-c-gt9.false c.if-d-gt9.true
+pub returns-in_default-figure-2 : goal.returns-in_default-figure-2
+returns-in_default-figure-2 c = cell_is_3 c.args.s.now c.args.at c.in_ok-a.a c.in_ok-a.ensures.value c.in-Some.b c.in-Some.ensures.value c.in-Some-figure.c c.in-Some-figure.ensures.value c.in_default-figure-2.ensures.value
 
 pub returns : goal.returns
-returns c = cell_is_4 c.args.s.now c.args.at c.figure-a.result c.figure-a.ensures c.figure-b.result c.figure-b.ensures c.if-a-gt9.false c.figure-c.result c.figure-c.ensures c.if-b-gt9.false c.figure-d.result c.figure-d.ensures c.if-c-gt9.false c.if-d-gt9.false
+returns c = cell_is_4 c.args.s.now c.args.at c.in_ok-a.a c.in_ok-a.ensures.value c.in-Some.b c.in-Some.ensures.value c.in-Some-figure.c c.in-Some-figure.ensures.value c.in-Some-figure-2.d c.in-Some-figure-2.ensures.value

@@ -1,10 +1,5 @@
-use Prim.Native.Nat.{◌-◌}
-use lib.ListN.{length}
 use Rattle.text.proofs.Nets.{Sofar}
 use Rattle.text.proofs.inner.scan.scan.Given as goal
 
 abbrev pub invariant-loop-k : goal.invariant-loop-k
 invariant-loop-k l = Sofar l.s l.at l.initial.out l.out l.k l.a
-
-abbrev pub decreases-loop-k : goal.decreases-loop-k
-decreases-loop-k l = length l.initial.out - l.k

@@ -1,32 +1,50 @@
-use Prim.Native.Nat.{◌+◌}
-use mathlib.Core.Path.{◌∙◌}
-use native.Mathlib.Omega.{arith}
-use Rattle.text.proofs.Scans.{in_range, word_0, word_1, word_cell, word_no, word_none, word_x}
+use Rattle.std.proofs.Common.{rules, arith, ◌≡◌, ◌+◌, get_or, ◌∙◌}
+use Rattle.std.proofs.lemmas.Grind.{common_steps}
+use Rattle.text.proofs.Scans.{word_0, word_1, word_cell, word_no, word_none, word_x}
 use Rattle.text.proofs.inner.scan.token.Goals as goal
 
-pub returns-then-byte-ne32 : goal.returns-then-byte-ne32
-returns-then-byte-ne32 c = word_none c.args.s.now c.args.at c.byte.result c.byte.ensures c.if-byte-ne32.true
+pub returns-in_err-get : goal.returns-in_err-get
+returns-in_err-get c =
+    let e : get_or c.args.s.now c.args.at 0 ≡ 0 = grind (arith, common_steps) in
+    c.from_residual.ensures ∙ word_none c.args.s.now c.args.at 0 e (λ q. omega (arith, q))
 
-pub overflow_add-at : goal.overflow_add-at
-overflow_add-at c = omega (arith, in_range c.args.s.now c.args.at c.byte.result c.byte.ensures (omega (arith, c.if-byte-ne32.false)))
+pub returns-then-branch-ne32 : goal.returns-then-branch-ne32
+returns-then-branch-ne32 c =
+    let e : get_or c.args.s.now c.args.at 0 ≡ c.in_ok-get.field-0.now = grind (arith, common_steps) in
+    word_none c.args.s.now c.args.at c.in_ok-get.field-0.now e c.if-branch-ne32.true
 
-pub overflow_add-at-then-b-eq37 : goal.overflow_add-at-then-b-eq37
-overflow_add-at-then-b-eq37 c = omega (arith, in_range c.args.s.now (c.args.at + 1) c.byte-b.result c.byte-b.ensures (omega (arith, c.if-b-eq37.true)))
+pub returns-in_err-get-2 : goal.returns-in_err-get-2
+returns-in_err-get-2 c =
+    let e : get_or c.args.s.now c.args.at 0 ≡ c.in_ok-get.field-0.now = grind (arith, common_steps) in
+    let d : get_or c.args.s.now (c.args.at + 1) 0 ≡ 0 = grind (arith, common_steps) in
+    c.from_residual-in_err-get-2.ensures ∙ word_no c.args.s.now c.args.at c.in_ok-get.field-0.now e c.if-branch-ne32.false 0 d (λ q. omega (arith, q)) (λ q. omega (arith, q)) (λ q. omega (arith, q)) (λ q. omega (arith, q))
 
-pub cell-requires : goal.cell-requires
-cell-requires c = omega (arith, in_range c.args.s.now (c.args.at + 1) c.byte-b.result c.byte-b.ensures (omega (arith, c.if-b-eq37.true)))
+pub returns-in-37 : goal.returns-in-37
+returns-in-37 c =
+    let e : get_or c.args.s.now c.args.at 0 ≡ c.in_ok-get.field-0.now = grind (arith, common_steps) in
+    let d : get_or c.args.s.now (c.args.at + 1) 0 ≡ c.in_ok-get-2.field-0.now = grind (arith, common_steps) in
+    c.cell.ensures ∙ word_cell c.args.s.now c.args.at c.in_ok-get.field-0.now e c.if-branch-ne32.false c.in_ok-get-2.field-0.now d c.in-37.is
 
-pub returns-then-b-eq37 : goal.returns-then-b-eq37
-returns-then-b-eq37 c = c.cell.ensures ∙ word_cell c.args.s.now c.args.at c.byte.result c.byte.ensures c.if-byte-ne32.false c.byte-b.result c.byte-b.ensures c.if-b-eq37.true
+pub returns-in-48 : goal.returns-in-48
+returns-in-48 c =
+    let e : get_or c.args.s.now c.args.at 0 ≡ c.in_ok-get.field-0.now = grind (arith, common_steps) in
+    let d : get_or c.args.s.now (c.args.at + 1) 0 ≡ c.in_ok-get-2.field-0.now = grind (arith, common_steps) in
+    word_0 c.args.s.now c.args.at c.in_ok-get.field-0.now e c.if-branch-ne32.false c.in_ok-get-2.field-0.now d c.in-48.is
 
-pub returns-then-b-eq48 : goal.returns-then-b-eq48
-returns-then-b-eq48 c = word_0 c.args.s.now c.args.at c.byte.result c.byte.ensures c.if-byte-ne32.false c.byte-b.result c.byte-b.ensures c.if-b-eq37.false c.if-b-eq48.true
+pub returns-in-49 : goal.returns-in-49
+returns-in-49 c =
+    let e : get_or c.args.s.now c.args.at 0 ≡ c.in_ok-get.field-0.now = grind (arith, common_steps) in
+    let d : get_or c.args.s.now (c.args.at + 1) 0 ≡ c.in_ok-get-2.field-0.now = grind (arith, common_steps) in
+    word_1 c.args.s.now c.args.at c.in_ok-get.field-0.now e c.if-branch-ne32.false c.in_ok-get-2.field-0.now d c.in-49.is
 
-pub returns-then-b-eq49 : goal.returns-then-b-eq49
-returns-then-b-eq49 c = word_1 c.args.s.now c.args.at c.byte.result c.byte.ensures c.if-byte-ne32.false c.byte-b.result c.byte-b.ensures c.if-b-eq37.false c.if-b-eq48.false c.if-b-eq49.true
+pub returns-in-88 : goal.returns-in-88
+returns-in-88 c =
+    let e : get_or c.args.s.now c.args.at 0 ≡ c.in_ok-get.field-0.now = grind (arith, common_steps) in
+    let d : get_or c.args.s.now (c.args.at + 1) 0 ≡ c.in_ok-get-2.field-0.now = grind (arith, common_steps) in
+    word_x c.args.s.now c.args.at c.in_ok-get.field-0.now e c.if-branch-ne32.false c.in_ok-get-2.field-0.now d c.in-88.is
 
-pub returns-then-b-eq88 : goal.returns-then-b-eq88
-returns-then-b-eq88 c = word_x c.args.s.now c.args.at c.byte.result c.byte.ensures c.if-byte-ne32.false c.byte-b.result c.byte-b.ensures c.if-b-eq37.false c.if-b-eq48.false c.if-b-eq49.false c.if-b-eq88.true
-
-pub returns : goal.returns
-returns c = word_no c.args.s.now c.args.at c.byte.result c.byte.ensures c.if-byte-ne32.false c.byte-b.result c.byte-b.ensures c.if-b-eq37.false c.if-b-eq48.false c.if-b-eq49.false c.if-b-eq88.false
+pub returns-in_default : goal.returns-in_default
+returns-in_default c =
+    let e : get_or c.args.s.now c.args.at 0 ≡ c.in_ok-get.field-0.now = grind (arith, common_steps) in
+    let d : get_or c.args.s.now (c.args.at + 1) 0 ≡ c.in_ok-get-2.field-0.now = grind (arith, common_steps) in
+    word_no c.args.s.now c.args.at c.in_ok-get.field-0.now e c.if-branch-ne32.false c.in_ok-get-2.field-0.now d (search rules) (search rules) (search rules) (search rules)

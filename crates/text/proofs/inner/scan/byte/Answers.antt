@@ -1,6 +1,0 @@
-use lib.ListN.{get_or-eq_default}
-use mathlib.Core.Path.{sym}
-use Rattle.text.proofs.inner.scan.byte.Goals as goal
-
-pub returns : goal.returns
-returns c = sym (get_or-eq_default c.args.s.now 0 c.if-at-s.false)
