@@ -1,1 +1,2 @@
+pub mod Assumes
 pub mod Ones

@@ -14,6 +14,9 @@ ghost use Rattle.rules.specs.Codes.{net_code};
 ghost use Rattle.text.specs.Calls.{printed_read, read_from};
 ghost use Rattle.tree.specs.Checked.{check_read};
 
+use rules::{Cell, Net, Place, Refusal, Trit};
+use tree::Built;
+
 // 01's number, 0 where there is a tree; its root's place and its size, 0 where there is none.
 #[repr(C)]
 #[derive(Clone, Copy)]
@@ -31,82 +34,51 @@ pub struct Answered {
     pub value: usize,
 }
 
-// The codes of the first cell, and of the last that the type has.
-const FIRST: u32 = rules::FIRST_CELL as u32;
-
-const LAST: u32 = FIRST + 65535;
-
 // A code that is too high stands for the last cell, which every call refuses as well.
-fn net(code: u32) -> rules::Net
+fn net(code: u32) -> Net
     ensures { net_code result ≡ min code last }
 {
-    if code > LAST {
-        return rules::Net::Cell(rules::Cell(65535));
-    }
     match code {
-        0 => rules::Net::Const(rules::Trit::Zero),
-        1 => rules::Net::Const(rules::Trit::One),
-        2 => rules::Net::Const(rules::Trit::Undef),
-        _ => rules::Net::Cell(rules::Cell((code - FIRST) as u16)),
+        0 => Net::Const(Trit::Zero),
+        1 => Net::Const(Trit::One),
+        2 => Net::Const(Trit::Undef),
+        _ => {
+            let number = code - u32::from(rules::FIRST_CELL);
+            Net::Cell(Cell(u16::try_from(number).unwrap_or(u16::MAX)))
+        }
     }
 }
 
-fn told(built: tree::Built) -> Dispatched
-    ensures { result ≡ dispatched (built_read built) }
-{
-    match built {
-        tree::Built::Done { root, size } => Dispatched {
-            no: 0,
-            root: root.0,
-            size: size,
-        },
-        tree::Built::Refused(no) => Dispatched {
-            no: no,
-            root: 0,
-            size: 0,
-        },
+impl From<Result<Built, Refusal>> for Dispatched {
+    ghost from_gives = { λ r d. d ≡ dispatched (built_read r) };
+
+    fn from(answer: Result<Built, Refusal>) -> Dispatched {
+        match answer {
+            Ok(built) => Dispatched {
+                no: 0,
+                root: built.root.0,
+                size: built.size,
+            },
+            Err(why) => Dispatched {
+                no: u8::from(why),
+                root: 0,
+                size: 0,
+            },
+        }
     }
 }
 
-fn answer(no: u8, value: usize) -> Answered
-    ensures { result ≡ record { no = no; value = value } }
-{
-    Answered { no, value }
-}
+impl From<Result<usize, Refusal>> for Answered {
+    ghost from_gives = { λ r a. a ≡ answered (check_read r) };
 
-fn printed(told: text::Printed) -> Answered
-    ensures { result ≡ answered (printed_read told) }
-{
-    match told {
-        text::Printed::Done(n) => answer(0, n),
-        text::Printed::Refused(no) => answer(no, 0),
-    }
-}
-
-fn checked(told: tree::Checked) -> Answered
-    ensures { result ≡ answered (check_read told) }
-{
-    match told {
-        tree::Checked::Tree(n) => answer(0, n),
-        tree::Checked::Refused(no) => answer(no, 0),
-    }
-}
-
-fn together(told: emit::Together) -> Answered
-    ensures { result ≡ answered (prefix_read told) }
-{
-    match told {
-        emit::Together::Length(n) => answer(0, n),
-        emit::Together::Refused(no) => answer(no, 0),
-    }
-}
-
-fn valued(told: evaluate::Value) -> Answered
-    ensures { result ≡ answered (value_read told) }
-{
-    match told {
-        evaluate::Value::Trit(t) => answer(0, trits::trit_code(t) as usize),
-        evaluate::Value::Refused(no) => answer(no, 0),
+    fn from(answer: Result<usize, Refusal>) -> Answered {
+        match answer {
+            Ok(value) => Answered { no: 0, value },
+            Err(why) => Answered {
+                no: u8::from(why),
+                value: 0,
+            },
+        }
     }
 }
 
@@ -126,13 +98,13 @@ pub fn doorpigeon_add(matrix: matrix::Matrix, pattern: &[u8], rules: &[u16]) -> 
 pub fn doorpigeon_assume(matrix: matrix::Matrix, target: u32, value: u8) -> matrix::Made
     ensures { result ≡ made_from (assumed (min target last) value (given matrix)) }
 {
-    if value > rules::UNDEF {
-        return matrix::Made {
-            no: rules::FORM,
+    match Trit::try_from(value) {
+        Ok(value) => matrix.assume(net(target), value),
+        Err(why) => matrix::Made {
+            no: u8::from(why),
             matrix,
-        };
+        },
     }
-    matrix.assume(net(target), trits::inner::trit(value))
 }
 
 pub fn doorpigeon_outputs(matrix: matrix::Matrix) -> matrix::Outputs
@@ -162,13 +134,13 @@ pub fn doorpigeon_merge(matrix: matrix::Matrix, at: u32, child: matrix::Matrix) 
 pub fn doorpigeon_dispatch(matrix: matrix::Matrix, enable: u32, store: &mut [u16]) -> Dispatched
     ensures { (result ≡ dispatched (dispatch_answer (min enable last) (given matrix) store.old)) × (store.new ≡ dispatch_store (min enable last) (given matrix) store.old) }
 {
-    told(dispatch::dispatch(matrix, net(enable), store))
+    Dispatched::from(dispatch::dispatch(matrix, net(enable), store))
 }
 
 pub fn doorpigeon_check(store: &[u16], root: usize) -> Answered
     ensures { result ≡ answered (check_answer store.now root) }
 {
-    checked(tree::check(store, rules::Place(root)))
+    Answered::from(tree::check(store, Place(root)))
 }
 
 pub fn doorpigeon_one_hot(
@@ -180,7 +152,7 @@ pub fn doorpigeon_one_hot(
 ) -> emit::Emitted
     ensures { (result ≡ emitted_from (one_hot_answer store.now root outputs.now count table.old)) × (table.new ≡ one_hot_after store.now root outputs.now count table.old) }
 {
-    emit::one_hot(store, rules::Place(root), outputs, count, table)
+    emit::one_hot(store, Place(root), outputs, count, table)
 }
 
 pub fn doorpigeon_disjoint(
@@ -197,7 +169,7 @@ pub fn doorpigeon_disjoint(
 {
     emit::disjoint(
         store,
-        rules::Place(root),
+        Place(root),
         nets,
         widths,
         bits,
@@ -210,25 +182,28 @@ pub fn doorpigeon_disjoint(
 pub fn doorpigeon_prefix(store: &[u16], root: usize, outputs: &[u16], enables: &[u16]) -> Answered
     ensures { result ≡ answered (prefix_answer store.now root outputs.now enables.now) }
 {
-    together(emit::prefix(store, rules::Place(root), outputs, enables))
+    Answered::from(emit::prefix(store, Place(root), outputs, enables))
 }
 
 pub fn doorpigeon_evaluate(table: &[u16], count: usize, trits: &[u8], asked: u32) -> Answered
     ensures { result ≡ answered (evaluate_answer count table.now trits.now (min asked last)) }
 {
-    valued(evaluate::evaluate(table, count, trits, net(asked)))
+    match evaluate::evaluate(table, count, trits, net(asked)) {
+        Ok(t) => Answered::from(Ok(usize::from(trits::trit_code(t)))),
+        Err(why) => Answered::from(Err(why)),
+    }
 }
 
 pub fn doorpigeon_print(matrix: matrix::Matrix, out: &mut [u8]) -> Answered
     ensures { (result ≡ answered (print_answer (given matrix) out.old)) × (out.new ≡ print_after (given matrix) out.old) }
 {
-    printed(text::print(matrix, out))
+    Answered::from(text::print(matrix, out))
 }
 
 pub fn doorpigeon_print_tree(store: &[u16], root: usize, out: &mut [u8]) -> Answered
     ensures { (result ≡ answered (print_tree_answer store.now root out.old)) × (out.new ≡ print_tree_after store.now root out.old) }
 {
-    printed(text::print_tree(store, rules::Place(root), out))
+    Answered::from(text::print_tree(store, Place(root), out))
 }
 
 pub fn doorpigeon_read(text: &[u8]) -> text::ReadMade

@@ -1,13 +1,12 @@
 -- C1 and C3 of the code: for all numbers before and after that satisfy the `ensures` of dispatch, of one_hot and of evaluate, by the very
 -- names that these contracts cite. `Slots` says only that a struct has as many slots as its arrays. Assumes nothing.
-use Rattle.std.specs.Prelude.{ℕ, ◌+◌, ◌<◌, ◌≤◌, true, List, ◌≡◌, refl, eqb, get_or, length, take}
+use Rattle.std.specs.Prelude.{ℕ, ◌+◌, ◌<◌, ◌≤◌, true, List, ◌≡◌, refl, eqb, get_or, length, take, Ok, Result}
 use Rattle.std.proofs.Common.{sym, ap, ap₂, ◌∙◌, arith}
 use borrow.Author.Tests.{eqb-false, ltb-false}
 use Rattle.dispatch.specs.Good.{built_read}
 use Rattle.emit.specs.Calls.{emitted_from}
 use Rattle.emit.specs.declared.Emitted.{Emitted}
 use Rattle.evaluate.specs.Values.{value_read}
-use Rattle.evaluate.specs.declared.Value.{Value}
 use Rattle.lists.specs.Bools.{by_bool}
 use Rattle.lists.specs.Lists.{all, mem}
 use Rattle.lists.specs.Vec.{get_or-vec}
@@ -29,7 +28,8 @@ use Rattle.rules.specs.Refuse.{WIDTH, done, or_refused, refusal}
 use Rattle.rules.specs.Trits.{is_trit}
 use Rattle.rules.specs.declared.Net.{Net}
 use Rattle.rules.specs.declared.Place.{Place}
-use Rattle.tree.specs.declared.Built.TheVariants.{Done}
+use Rattle.rules.specs.declared.Trit.{Trit}
+use Rattle.rules.specs.declared.refusal.Refusal.{Refusal}
 use Rattle.tree.specs.declared.Built.{Built}
 
 -- an emission that gives no number gives its value
@@ -37,9 +37,9 @@ sent : (n : ℕ) (a : List ℕ × ℕ) → (emitted_from (or_refused n a)).no �
 sent n a h = by_bool (eqb n 0) (λ p. rw p) (λ p. let q : n ≡ 0 = rw p at h in absurd (eqb-false n 0 p q))
 
 -- A matrix and an enable; the numbers of the store before and after; what dispatch ensures of its answer, which is a tree.
-module _ (m : Matrix) (slots : Slots (given m)) (enable : Net) (store after : List ℕ) (built : Built)
+module _ (m : Matrix) (slots : Slots (given m)) (enable : Net) (store after : List ℕ) (built : Result Built Refusal)
     (dispatched : (built_read built ≡ dispatch_answer (net_code enable) (given m) store) × (after ≡ dispatch_store (net_code enable) (given m) store))
-    (root : Place) (size : ℕ) (a-tree : built ≡ Done root size)
+    (root : Place) (size : ℕ) (a-tree : built ≡ Ok (record { root = root; size = size }))
     (outs : List ℕ) (count : ℕ) (table then : List ℕ) (sends : Emitted)
     (one-hot : (sends ≡ emitted_from (one_hot_answer after root.0 outs count table)) × (then ≡ one_hot_after after root.0 outs count table)) (accepted : sends.no ≡ 0) where
   abbrev e : ℕ
@@ -82,14 +82,14 @@ module _ (m : Matrix) (slots : Slots (given m)) (enable : Net) (store after : Li
 
   -- C1: what evaluate answers is 1 exactly when the first matching row names the output, else 0
   pub code_first_match : (ts : List ℕ) → all is_trit (take mux_first ts) ≡ true → (σ : Setting) → Knows (trits_of ts) σ (add_enable e (view m))
-      → (i : ℕ) → i < length outs → (asked : Net) → net_code asked ≡ get_or sends.nets i 0 → (v : Value) → value_read v ≡ evaluate_answer sends.used then ts (net_code asked)
+      → (i : ℕ) → i < length outs → (asked : Net) → net_code asked ≡ get_or sends.nets i 0 → (v : Result Trit Refusal) → value_read v ≡ evaluate_answer sends.used then ts (net_code asked)
       → value_read v ≡ done (owes σ e (view m) (get_or outs i 0))
   code_first_match ts k σ w i h asked q v ensured =
       ensured ∙ asks ts i h asked q ∙ output_is e (given m) slots store root.0 size answered outs count table pair.0 pair.1 hot ts σ k w i h
 
   -- C3: and a bit that it answers it answers at every filling
   pub code_known_stays : (ts us : List ℕ) → all is_trit (take mux_first ts) ≡ true → Filling ts us → (i b : ℕ) → i < length outs → (asked : Net) → net_code asked ≡ get_or sends.nets i 0
-      → (v u : Value) → value_read v ≡ evaluate_answer sends.used then ts (net_code asked) → value_read u ≡ evaluate_answer sends.used then us (net_code asked)
+      → (v u : Result Trit Refusal) → value_read v ≡ evaluate_answer sends.used then ts (net_code asked) → value_read u ≡ evaluate_answer sends.used then us (net_code asked)
       → value_read v ≡ done b → (b ≡ 2 → ⊥) → value_read u ≡ done b
   code_known_stays ts us k f i b h asked q v u ev eu is known =
       eu ∙ asks us i h asked q

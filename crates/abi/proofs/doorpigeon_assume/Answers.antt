@@ -1,7 +1,5 @@
-use Prim.Native.Nat.{ℕ, ◌<◌, min}
-use borrow.Author.Tests.{le-ltb, lt-ltb}
-use mathlib.Core.Path.{◌∙◌, ap, sym}
-use native.Mathlib.Omega.{arith}
+use Rattle.std.proofs.Common.{ℕ, ◌∙◌, ap, min, sym}
+use Rattle.abi.proofs.Assumes.{trit_done, trit_refused}
 use Rattle.abi.specs.Plain.{last}
 use Rattle.matrix.proofs.Views.{from-given}
 use Rattle.matrix.specs.Mat.{given, made_from}
@@ -10,22 +8,13 @@ use Rattle.matrix.specs.declared.Matrix.{Matrix}
 use Rattle.rules.specs.Answers.{assume_answer}
 use Rattle.rules.specs.Codes.{trit_code}
 use Rattle.rules.specs.Refuse.{FORM}
-use Rattle.trits.specs.Codes.{cut-trit}
 use Rattle.abi.proofs.doorpigeon_assume.Goals as goal
 
-abbrev back : Matrix → Made
-back m = record { no = FORM; matrix = m }
+abbrev back : ℕ → Matrix → Made
+back k m = record { no = k; matrix = m }
 
-pub returns-then-value-gt-UNDEF : goal.returns-then-value-gt-UNDEF
-returns-then-value-gt-UNDEF c =
+pub returns-in-Err : goal.returns-in-Err
+returns-in-Err c =
     let a = c.args in
-    rw (le-ltb a.value 3 c.if-value-gt-UNDEF.true) (ap back (sym (from-given a.matrix)))
-
-pub returns : goal.returns
-returns c =
-    let a = c.args in
-    let h : a.value < 3 = omega (arith, c.if-value-gt-UNDEF.false) in
-    let n = c.net.ensures in
-    let b = c.trit.ensures ∙ cut-trit a.value h in
-    rw (lt-ltb a.value 3 h)
-    (c.assume.ensures ∙ ap (λ (k : ℕ). made_from (assume_answer k (trit_code c.trit.result) (given a.matrix))) n ∙ ap (λ (k : ℕ). made_from (assume_answer (min a.target last) k (given a.matrix))) b)
+    let t = trit_refused a.value _ c.in-Err.ensures in
+    rw t.1 (ap (λ (k : ℕ). back k a.matrix) (c.from.ensures ∙ t.0) ∙ ap (back FORM) (sym (from-given a.matrix)))
