@@ -1,16 +1,19 @@
 // The program: a printed matrix in, and what is asked of it out. All that matters is in the libraries.
 #![tactic(auto)]
 
-ghost use Rattle.std.specs.Prelude.{◌≤◌, IfOk, length};
-
-use args::Asked;
+use args::{Asked, Plan, Query, Source};
+use emit::Emitted;
+use matrix::Matrix;
+use rules::Refusal;
 use std::env::Env;
 use std::io::Read;
 use std::rt::Files;
 use std::{fs, io};
+use stop::Stop;
 
 mod args;
 mod show;
+mod stop;
 mod words;
 
 // How many bytes of a text are read. Any longer one is refused, at a line that they have.
@@ -22,239 +25,131 @@ const TABLE: usize = evaluate::inner::MUX_RUN * rules::MUX_MAX;
 
 const TRITS: usize = rules::CELL_MAX as usize + 1;
 
-// Whether a text could be opened and read, and what the reader made of it.
-#[derive(Clone, Copy)]
-struct Opened {
-    found: bool,
-    read: text::ReadMade,
-}
-
 fn main(rt: HostRuntime) -> io::Result<()> {
     let err = rt.stderr();
-    let mut trits = [rules::UNDEF; TRITS];
-    let asked = args::arguments(&rt, &err, &mut trits)?;
-    if asked.wrong {
-        return Ok(());
+    match run(&rt, &err) {
+        Ok(()) => Ok(()),
+        Err(stop) => show::stopped(&rt, &err, stop),
     }
-    if asked.command == args::HELP {
-        return show::help(&rt);
-    }
-    if asked.command == args::NONE {
-        return show::help(&err);
-    }
-    if asked.command == args::MERGE {
-        return merge(&rt, &err, asked);
-    }
-    answer(&rt, &err, asked, &trits)
 }
 
-// Up to where the bytes lent are full or the file ends.
-fn load(file: &mut impl Read, buf: &mut [u8]) -> io::Result<usize>
-    ensures { IfOk result (λ n. n ≤ length buf.new) }
-{
+fn run(rt: &(impl Env + Files + Input + Print), err: &impl Print) -> Result<(), Stop> {
+    let mut trits = [rules::UNDEF; TRITS];
+    match args::parse(rt, &mut trits)? {
+        Asked::Nothing => Ok(show::help(err)?),
+        Asked::Help => Ok(show::help(rt)?),
+        Asked::Merge { at, child, parent } => {
+            let child = matrix(rt, child)?;
+            let parent = matrix(rt, parent)?;
+            show::made(rt, parent.merge(at, child))
+        }
+        Asked::Of { query, file, plan } => {
+            let matrix = matrix(rt, file)?;
+            Case { matrix, plan }.answer(rt, query, &trits)
+        }
+    }
+}
+
+// Up to where the bytes lent are full or the file ends. A read says how far the place moves on, so no iterator gives it.
+fn load<'a>(file: &mut impl Read, buf: &'a mut [u8]) -> io::Result<&'a [u8]> {
     let mut n = 0;
     while n < buf.len() {
-        let more = file.read(&mut buf[n..])?;
-        if more == 0 {
-            return Ok(n);
+        match file.read(&mut buf[n..])? {
+            0 => break,
+            more => n += more,
         }
-        n += more;
     }
-    Ok(n)
-}
-
-fn unread(err: &impl Print, name: &[u8], reason: &io::Error) -> io::Result<Opened> {
-    show::unread(err, name, reason)?;
-    Ok(Opened {
-        found: false,
-        read: text::read(b""),
-    })
-}
-
-fn from(err: &impl Print, file: &mut impl Read, name: &[u8]) -> io::Result<Opened> {
-    let mut buf = [0u8; READ_MAX];
-    match load(file, &mut buf) {
-        Ok(n) => Ok(Opened {
-            found: true,
-            read: text::read(&buf[..n]),
-        }),
-        Err(e) => unread(err, name, &e),
-    }
-}
-
-fn standard(rt: &impl Input, err: &impl Print) -> io::Result<Opened> {
-    from(err, &mut rt.reader(), b"standard input")
+    Ok(&buf[..n])
 }
 
 // A path is text to std.
-fn open<R: Files>(rt: &R, path: &[u8]) -> io::Result<R::File> {
-    match std::str::from_utf8(path) {
-        Ok(p) => fs::open(rt, p),
-        Err(_) => Err(io::Error::from(io::ErrorKind::InvalidFilename)),
+fn named<'a>(rt: &impl Files, path: &[u8], buf: &'a mut [u8]) -> io::Result<&'a [u8]> {
+    let Ok(path) = str::from_utf8(path) else {
+        return Err(io::Error::from(io::ErrorKind::InvalidFilename));
+    };
+    load(&mut fs::open(rt, path)?, buf)
+}
+
+fn bytes<'a>(
+    rt: &(impl Env + Files + Input),
+    source: Source,
+    buf: &'a mut [u8],
+) -> io::Result<&'a [u8]> {
+    match source {
+        Source::Input => load(&mut rt.reader(), buf),
+        Source::File(argument) => {
+            let mut path = [0u8; args::WORD_MAX];
+            named(rt, argument.bytes(rt, &mut path), buf)
+        }
     }
 }
 
-fn named(rt: &impl Files, err: &impl Print, path: &[u8]) -> io::Result<Opened> {
-    match open(rt, path) {
-        Ok(mut file) => from(err, &mut file, path),
-        Err(e) => unread(err, path, &e),
+fn matrix(rt: &(impl Env + Files + Input), source: Source) -> Result<Matrix, Stop> {
+    let mut buf = [0u8; READ_MAX];
+    let text = bytes(rt, source, &mut buf).map_err(|error| Stop::Unread(source, error))?;
+    let read = text::read(text);
+    if read.no != 0 {
+        return Err(Stop::Line(read.line));
     }
+    Ok(read.matrix)
 }
 
-// Standard input where no file is named.
-fn given(rt: &(impl Env + Files + Input), err: &impl Print, i: usize) -> io::Result<Opened> {
-    if i == 0 {
-        return standard(rt, err);
-    }
-    let mut path = [0u8; args::WORD_MAX];
-    let n = args::again(rt, i, &mut path);
-    if check::same(&path[..n], b"-") {
-        return standard(rt, err);
-    }
-    named(rt, err, &path[..n])
+// A matrix that was read, and how it is to be lowered.
+#[derive(Clone, Copy)]
+struct Case {
+    matrix: Matrix,
+    plan: Plan,
 }
 
-// Whether a matrix is there; a refusal is said.
-fn is_read(rt: &impl Print, g: Opened) -> io::Result<bool> {
-    if !g.found {
-        return Ok(false);
+impl Case {
+    fn answer(self, rt: &impl Print, query: Query, trits: &[u8]) -> Result<(), Stop> {
+        // A matrix that was read has no number against it, so its outputs have none.
+        let outputs = self.matrix.outputs();
+        let nets = &outputs.nets[..outputs.count.min(outputs.nets.len())];
+        match query {
+            Query::Read => show::matrix(rt, self.matrix),
+            Query::Normal => show::made(rt, self.matrix.normalize()),
+            Query::Enable => show::made(rt, self.matrix.add_enable(self.plan.enable)),
+            Query::Tree => self.tree(rt),
+            Query::Outputs => Ok(show::nets(rt, nets)?),
+            Query::Muxes => self.muxes(rt, nets),
+            Query::Eval => self.values(rt, nets, trits),
+        }
     }
-    let r = g.read;
-    if r.no != 0 {
-        show::refused_line(rt, r.line)?;
-        return Ok(false);
-    }
-    Ok(true)
-}
 
-fn answer(
-    rt: &(impl Env + Files + Input + Print),
-    err: &impl Print,
-    asked: Asked,
-    trits: &[u8],
-) -> io::Result<()> {
-    let g = given(rt, err, asked.first)?;
-    if !is_read(rt, g)? {
-        return Ok(());
+    // The tree in the entries that it may take, and its root.
+    fn planted(self, store: &mut [u16; STORE]) -> Result<rules::Place, Refusal> {
+        let taken = tree::inner::NODE_RUN * self.plan.entries.min(rules::NODES_MAX);
+        let built = dispatch::dispatch(self.matrix, self.plan.enable, &mut store[..taken])?;
+        Ok(built.root)
     }
-    let r = g.read;
-    let m = r.matrix;
-    if asked.command == args::READ {
-        show::matrix(rt, m)
-    } else if asked.command == args::NORMAL {
-        show::made(rt, m.normalize())
-    } else if asked.command == args::ENABLE {
-        show::made(rt, m.add_enable(trits::inner::net(asked.enable)))
-    } else if asked.command == args::TREE {
-        tree(rt, m, asked)
-    } else {
-        of_outputs(rt, m, asked, trits)
+
+    fn tree(self, rt: &impl Print) -> Result<(), Stop> {
+        let mut store = [0u16; STORE];
+        let root = self.planted(&mut store)?;
+        show::tree(rt, &store, root)
     }
-}
 
-fn merge(
-    rt: &(impl Env + Files + Input + Print),
-    err: &impl Print,
-    asked: Asked,
-) -> io::Result<()> {
-    let c = given(rt, err, asked.second)?;
-    if !is_read(rt, c)? {
-        return Ok(());
+    fn lowered(self, outputs: &[u16], table: &mut [u16]) -> Result<Emitted, Stop> {
+        let mut store = [0u16; STORE];
+        let root = self.planted(&mut store)?;
+        let emitted = emit::one_hot(&store, root, outputs, 0, table);
+        if emitted.no != 0 {
+            return Err(Stop::Refused(emitted.no));
+        }
+        Ok(emitted)
     }
-    let p = given(rt, err, asked.third)?;
-    if !is_read(rt, p)? {
-        return Ok(());
+
+    fn muxes(self, rt: &impl Print, outputs: &[u16]) -> Result<(), Stop> {
+        let mut table = [0u16; TABLE];
+        let emitted = self.lowered(outputs, &mut table)?;
+        show::muxes(rt, &table, emitted.used)?;
+        Ok(show::pairs(rt, outputs, &emitted.nets)?)
     }
-    let child = c.read;
-    let parent = p.read;
-    let m = parent.matrix;
-    show::made(rt, m.merge(trits::inner::net(asked.at), child.matrix))
-}
 
-fn least(a: usize, b: usize) -> usize
-    ensures { (result ≤ a) × (result ≤ b) }
-{
-    if a < b { a } else { b }
-}
-
-// The tree in the entries asked for.
-fn planted(m: matrix::Matrix, asked: Asked, store: &mut [u16]) -> tree::Built {
-    let k = least(asked.numbers, store.len());
-    let enable = trits::inner::net(asked.enable);
-    dispatch::dispatch(m, enable, &mut store[..k])
-}
-
-fn tree(rt: &impl Print, m: matrix::Matrix, asked: Asked) -> io::Result<()> {
-    let mut store = [0u16; STORE];
-    match planted(m, asked, &mut store) {
-        tree::Built::Done { root, size: _ } => show::tree(rt, &store, root),
-        tree::Built::Refused(no) => show::refused(rt, no),
+    fn values(self, rt: &impl Print, outputs: &[u16], trits: &[u8]) -> Result<(), Stop> {
+        let mut table = [0u16; TABLE];
+        let emitted = self.lowered(outputs, &mut table)?;
+        show::values(rt, outputs, emitted, &table, trits)
     }
-}
-
-// A refusal of dispatch is one of the emission.
-fn lowered(m: matrix::Matrix, asked: Asked, outs: &[u16], table: &mut [u16]) -> emit::Emitted {
-    let mut store = [0u16; STORE];
-    match planted(m, asked, &mut store) {
-        tree::Built::Done { root, size: _ } => emit::one_hot(&store, root, outs, 0, table),
-        tree::Built::Refused(no) => emit::Emitted {
-            no,
-            nets: [0; rules::WIDTH_MAX],
-            width: 0,
-            used: 0,
-        },
-    }
-}
-
-fn muxes(rt: &impl Print, m: matrix::Matrix, asked: Asked, outs: &[u16]) -> io::Result<()> {
-    let mut table = [0u16; TABLE];
-    let e = lowered(m, asked, outs, &mut table);
-    if e.no != 0 {
-        return show::refused(rt, e.no);
-    }
-    let nets = e.nets;
-    show::muxes(rt, &table, e.used)?;
-    show::pairs(rt, outs, &nets)
-}
-
-fn values(
-    rt: &impl Print,
-    m: matrix::Matrix,
-    asked: Asked,
-    outs: &[u16],
-    trits: &[u8],
-) -> io::Result<()> {
-    let mut table = [0u16; TABLE];
-    let e = lowered(m, asked, outs, &mut table);
-    if e.no != 0 {
-        return show::refused(rt, e.no);
-    }
-    let nets = e.nets;
-    show::values(rt, outs, &nets, &table, e.used, trits)
-}
-
-// What is asked of the first so many outputs.
-fn shown(
-    rt: &impl Print,
-    m: matrix::Matrix,
-    asked: Asked,
-    outs: &[u16],
-    count: usize,
-    trits: &[u8],
-) -> io::Result<()> {
-    let k = least(count, outs.len());
-    if asked.command == args::OUTPUTS {
-        show::nets(rt, &outs[..k])
-    } else if asked.command == args::MUXES {
-        muxes(rt, m, asked, &outs[..k])
-    } else {
-        values(rt, m, asked, &outs[..k], trits)
-    }
-}
-
-// A matrix that was read has no number against it, so its outputs have none.
-fn of_outputs(rt: &impl Print, m: matrix::Matrix, asked: Asked, trits: &[u8]) -> io::Result<()> {
-    let o = m.outputs();
-    let nets = o.nets;
-    shown(rt, m, asked, &nets, o.count, trits)
 }

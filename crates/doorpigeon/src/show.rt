@@ -1,8 +1,11 @@
 // What the program writes: texts, lines of nets, and 01's numbers by name.
-ghost use Rattle.std.specs.Prelude.{◌≤◌, IfOk, length};
-
-use std::io;
+use crate::args::{Argument, Source, WORD_MAX, Wrong};
+use crate::stop::Stop;
+use emit::Emitted;
+use rules::{Net, Trit};
+use std::env::Env;
 use std::io::Write;
+use std::{fmt, io};
 
 // More than the text of the largest tree that a dispatch gives has.
 const TREE_TEXT_MAX: usize = 131072;
@@ -10,60 +13,106 @@ const TREE_TEXT_MAX: usize = 131072;
 // More than what the system says of an error has.
 const REASON_MAX: usize = 320;
 
-pub(crate) fn error(err: &impl Print, message: &str) -> io::Result<()> {
-    println!(err; "doorpigeon: {message}")
+// The net that the first mux drives.
+const FIRST_DRIVEN: u16 = rules::CELL_MAX + 1;
+
+const HELP: &str = "\
+doorpigeon COMMAND [OPTIONS] [FILE]
+
+FILE is a printed matrix; standard input if it is missing or -.
+
+  read              the matrix, printed back
+  normal            the normalized matrix
+  enable            the matrix with the enable added
+  outputs           its outputs, one a line
+  tree              the decision tree
+  muxes             the muxes of all outputs, then the net of each output
+  eval              the value of each output at the setting given by -v
+  merge NET CHILD   FILE merged with the matrix in the file CHILD at NET
+  help, -h, --help  this text
+
+  -e NET            the enable, 1 if not given: -e %5 (enable, tree, muxes, eval)
+  -s N              entries of the node store, 1024 if not given: -s 100 (tree, muxes, eval)
+  -v SETTING        nets and their values, unknown if not named: -v %0=1,%3=X (eval)
+
+A refusal is one line: refused, its number and its name.
+";
+
+// A net as it is printed.
+#[derive(Clone, Copy)]
+struct NetText(Net);
+
+impl From<u16> for NetText {
+    fn from(code: u16) -> NetText {
+        NetText(Net::from(code))
+    }
 }
 
-pub(crate) fn error_of(err: &impl Print, word: &[u8], message: &str) -> io::Result<()> {
-    err.print("doorpigeon: ")?;
-    err.write_all(word)?;
-    err.println(message)
-}
-
-pub(crate) fn unread(err: &impl Print, name: &[u8], reason: &io::Error) -> io::Result<()> {
-    err.print("doorpigeon: can't read ")?;
-    err.write_all(name)?;
-    let mut text = [0u8; REASON_MAX];
-    let n = put(reason, &mut text)?;
-    println!(err; ": {}", words(&text[..n]))?;
-    error(
-        err,
-        "write the path of a printed matrix, or - for standard input",
-    )
-}
-
-fn put(reason: &io::Error, text: &mut [u8]) -> io::Result<usize>
-    ensures { IfOk result (λ n. n ≤ length text.new) }
-{
-    let len = text.len();
-    let mut rest = text;
-    write!(rest, "{reason}")?;
-    Ok(len.saturating_sub(rest.len()))
-}
-
-// What the system says, without the number that std sets after it.
-fn words(text: &[u8]) -> &str {
-    let Ok(all) = std::str::from_utf8(text) else {
-        return "";
-    };
-    match all.split_once(" (os error ") {
-        Some((words, _)) => words,
-        None => all,
+impl fmt::Display for NetText {
+    fn fmt<W: fmt::Write>(&self, f: &mut fmt::Formatter<W>) -> fmt::Result {
+        match self.0 {
+            Net::Const(Trit::Zero) => f.write_str("0"),
+            Net::Const(Trit::One) => f.write_str("1"),
+            Net::Const(Trit::Undef) => f.write_str("X"),
+            Net::Cell(cell) => write!(f, "%{}", cell.0),
+        }
     }
 }
 
 pub(crate) fn help(to: &impl Print) -> io::Result<()> {
-    to.print(
-        "doorpigeon COMMAND [OPTIONS] [FILE]\n\nFILE is a printed matrix; standard input if it is missing or -.\n\n",
-    )?;
-    to.print(
-        "  read              the matrix, printed back\n  normal            the normalized matrix\n  enable            the matrix with the enable added\n  outputs           its outputs, one a line\n  tree              the decision tree\n  muxes             the muxes of all outputs, then the net of each output\n  eval              the value of each output at the setting given by -v\n  merge NET CHILD   FILE merged with the matrix in the file CHILD at NET\n  help, -h, --help  this text\n\n",
-    )?;
-    to.print(
-        "  -e NET            the enable, 1 if not given: -e %5 (enable, tree, muxes, eval)\n  -s N              entries of the node store, 1024 if not given: -s 100 (tree, muxes, eval)\n  -v SETTING        nets and their values, unknown if not named: -v %0=1,%3=X (eval)\n\nA refusal is one line: refused, its number and its name.\n",
+    to.print(HELP)
+}
+
+pub(crate) fn stopped(rt: &(impl Env + Print), err: &impl Print, stop: Stop) -> io::Result<()> {
+    match stop {
+        Stop::Wrong(wrong) => usage(rt, err, wrong),
+        Stop::Unread(source, reason) => unread(rt, err, source, reason),
+        Stop::Line(line) => {
+            println!(rt; "refused 11 LINE line {line} (see README.md, The text of a matrix)")
+        }
+        Stop::Refused(no) => println!(rt; "refused {no} {}", name(no)),
+        Stop::Unwritten(error) => Err(error),
+    }
+}
+
+fn word(rt: &impl Env, err: &impl Print, argument: Argument) -> io::Result<()> {
+    let mut buf = [0u8; WORD_MAX];
+    err.write_all(argument.bytes(rt, &mut buf))
+}
+
+fn usage(rt: &impl Env, err: &impl Print, wrong: Wrong) -> io::Result<()> {
+    err.print("doorpigeon: ")?;
+    if let Some(argument) = wrong.word() {
+        word(rt, err, argument)?;
+    }
+    err.println(wrong)
+}
+
+fn unread(rt: &impl Env, err: &impl Print, source: Source, reason: io::Error) -> io::Result<()> {
+    err.print("doorpigeon: can't read ")?;
+    match source {
+        Source::Input => err.print("standard input")?,
+        Source::File(path) => word(rt, err, path)?,
+    }
+    let mut buf = [0u8; REASON_MAX];
+    println!(err; ": {}", said(reason, &mut buf)?)?;
+    err.println("doorpigeon: write the path of a printed matrix, or - for standard input")
+}
+
+// What the system says, without the number that std sets after it.
+fn said<'a>(reason: io::Error, buf: &'a mut [u8]) -> io::Result<&'a str> {
+    let room = buf.len();
+    let mut rest = &mut *buf;
+    write!(rest, "{reason}")?;
+    let used = room.saturating_sub(rest.len());
+    let all = str::from_utf8(&buf[..used]).unwrap_or("");
+    Ok(
+        all.split_once(" (os error ")
+            .map_or(all, |(words, _)| words),
     )
 }
 
+// By its number, since a call that C makes as well hands over no more.
 fn name(no: u8) -> &'static str {
     match no {
         1 => "COLUMNS",
@@ -81,147 +130,71 @@ fn name(no: u8) -> &'static str {
     }
 }
 
-pub(crate) fn refused(rt: &impl Print, no: u8) -> io::Result<()> {
-    println!(rt; "refused {no} {}", name(no))
+// No text is longer than the bytes that were lent to it.
+fn bytes(rt: &impl Print, out: &[u8], n: usize) -> io::Result<()> {
+    rt.write_all(&out[..n.min(out.len())])
 }
 
-pub(crate) fn refused_line(rt: &impl Print, line: usize) -> io::Result<()> {
-    println!(rt; "refused 11 LINE line {line} (see README.md, The text of a matrix)")
-}
-
-pub(crate) fn matrix(rt: &impl Print, m: matrix::Matrix) -> io::Result<()> {
+pub(crate) fn matrix(rt: &impl Print, m: matrix::Matrix) -> Result<(), Stop> {
     let mut out = [0u8; text::TEXT_MAX];
-    match text::print(m, &mut out) {
-        text::Printed::Done(n) => bytes(rt, &out, n),
-        text::Printed::Refused(no) => refused(rt, no),
-    }
+    let n = text::print(m, &mut out)?;
+    Ok(bytes(rt, &out, n)?)
 }
 
-pub(crate) fn made(rt: &impl Print, made: matrix::Made) -> io::Result<()> {
+pub(crate) fn made(rt: &impl Print, made: matrix::Made) -> Result<(), Stop> {
     if made.no != 0 {
-        return refused(rt, made.no);
+        return Err(Stop::Refused(made.no));
     }
     matrix(rt, made.matrix)
 }
 
-fn bytes(rt: &impl Print, out: &[u8], n: usize) -> io::Result<()> {
-    if n <= out.len() {
-        return rt.write_all(&out[..n]);
-    }
-    Ok(())
-}
-
-fn trit(rt: &impl Print, t: rules::Trit) -> io::Result<()> {
-    match t {
-        rules::Trit::Zero => rt.print("0"),
-        rules::Trit::One => rt.print("1"),
-        rules::Trit::Undef => rt.print("X"),
-    }
-}
-
-fn net(rt: &impl Print, code: u16) -> io::Result<()> {
-    match trits::inner::net(code) {
-        rules::Net::Const(t) => trit(rt, t),
-        rules::Net::Cell(c) => print!(rt; "%{}", c.0),
-    }
+pub(crate) fn tree(rt: &impl Print, store: &[u16], root: rules::Place) -> Result<(), Stop> {
+    let mut out = [0u8; TREE_TEXT_MAX];
+    let n = text::print_tree(store, root, &mut out)?;
+    Ok(bytes(rt, &out, n)?)
 }
 
 pub(crate) fn nets(rt: &impl Print, nets: &[u16]) -> io::Result<()> {
-    let mut i = 0;
-    while i < nets.len() {
-        net(rt, nets[i])?;
-        println!(rt)?;
-        i += 1;
+    for net in nets {
+        println!(rt; "{}", NetText::from(*net))?;
     }
     Ok(())
-}
-
-fn mux(rt: &impl Print, k: usize, select: u16, one: u16, zero: u16) -> io::Result<()> {
-    print!(rt; "%{k} = mux ")?;
-    net(rt, select)?;
-    rt.print(" ")?;
-    net(rt, one)?;
-    rt.print(" ")?;
-    net(rt, zero)?;
-    println!(rt)
-}
-
-// Entry k, which drives net 10,000 + k.
-fn entry(rt: &impl Print, table: &[u16], k: usize) -> io::Result<()> {
-    if k >= rules::MUX_MAX {
-        return Ok(());
-    }
-    let p = evaluate::inner::MUX_RUN * k;
-    if p + 2 >= table.len() {
-        return Ok(());
-    }
-    mux(
-        rt,
-        rules::CELL_MAX as usize + 1 + k,
-        table[p],
-        table[p + 1],
-        table[p + 2],
-    )
 }
 
 pub(crate) fn muxes(rt: &impl Print, table: &[u16], used: usize) -> io::Result<()> {
-    let mut k = 0;
-    while k < used {
-        entry(rt, table, k)?;
-        k += 1;
+    let (muxes, _) = table.as_chunks::<{ evaluate::inner::MUX_RUN }>();
+    for (driven, [select, one, zero]) in (FIRST_DRIVEN..).zip(muxes).take(used) {
+        println!(rt;
+            "%{driven} = mux {} {} {}",
+            NetText::from(*select),
+            NetText::from(*one),
+            NetText::from(*zero)
+        )?;
     }
     Ok(())
-}
-
-fn head(rt: &impl Print, output: u16) -> io::Result<()> {
-    net(rt, output)?;
-    rt.print(" = ")
 }
 
 pub(crate) fn pairs(rt: &impl Print, outputs: &[u16], nets: &[u16]) -> io::Result<()> {
-    let mut i = 0;
-    while i < outputs.len() {
-        if i < nets.len() {
-            head(rt, outputs[i])?;
-            net(rt, nets[i])?;
-            println!(rt)?;
-        }
-        i += 1;
+    for (output, net) in outputs.iter().zip(nets) {
+        println!(rt; "{} = {}", NetText::from(*output), NetText::from(*net))?;
     }
     Ok(())
-}
-
-fn value(rt: &impl Print, net: u16, table: &[u16], used: usize, trits: &[u8]) -> io::Result<()> {
-    match evaluate::evaluate(table, used, trits, trits::inner::net(net)) {
-        evaluate::Value::Trit(t) => trit(rt, t),
-        evaluate::Value::Refused(no) => refused(rt, no),
-    }
 }
 
 pub(crate) fn values(
     rt: &impl Print,
     outputs: &[u16],
-    nets: &[u16],
+    emitted: Emitted,
     table: &[u16],
-    used: usize,
     trits: &[u8],
-) -> io::Result<()> {
-    let mut i = 0;
-    while i < outputs.len() {
-        if i < nets.len() {
-            head(rt, outputs[i])?;
-            value(rt, nets[i], table, used, trits)?;
-            println!(rt)?;
-        }
-        i += 1;
+) -> Result<(), Stop> {
+    for (output, net) in outputs.iter().zip(&emitted.nets) {
+        let value = evaluate::evaluate(table, emitted.used, trits, Net::from(*net))?;
+        println!(rt;
+            "{} = {}",
+            NetText::from(*output),
+            NetText(Net::Const(value))
+        )?;
     }
     Ok(())
-}
-
-pub(crate) fn tree(rt: &impl Print, store: &[u16], root: rules::Place) -> io::Result<()> {
-    let mut out = [0u8; TREE_TEXT_MAX];
-    match text::print_tree(store, root, &mut out) {
-        text::Printed::Done(n) => bytes(rt, &out, n),
-        text::Printed::Refused(no) => refused(rt, no),
-    }
 }
