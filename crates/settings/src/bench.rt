@@ -1,6 +1,17 @@
 // Bench settings 6, 10, 11 and 12 of 01.
-use crate::{calls, say};
+use crate::say::{Kept, Told, blank, cell};
+use matrix::Matrix;
+use rules::{Net, Trit};
 use std::io;
+
+const HEAD: &[u8; 8] = b"[ %0 ]:\n";
+
+const ROW: &[u8; 15] = b"  X => (empty)\n";
+
+// The bytes of a text of 64 such rows, and of one of 65.
+pub(crate) const TALL: usize = HEAD.len() + rules::ROWS_MAX * ROW.len();
+
+pub(crate) const TALLER: usize = TALL + ROW.len();
 
 pub(crate) fn all(rt: &impl Print) -> io::Result<()> {
     settings(rt)?;
@@ -8,64 +19,63 @@ pub(crate) fn all(rt: &impl Print) -> io::Result<()> {
     setting_12_nets(rt)
 }
 
-// 6: "normalized rows X, 0, X"; 10: "merged at %10".
+// 6: "normalized rows X, 0, X"; 10: "merged at %10"; 11: "Trits 0, 1, X, 0, 1 from highest".
 fn settings(rt: &impl Print) -> io::Result<()> {
     let m = text::read(b"[ 0 %0 ]:\n  0X => %10\n  X0 => %11\n  XX => %12\n").matrix;
-    say::told(rt, b"setting 6:", m.normalize(), m)?;
-    calls::merge(
-        rt,
-        b"setting 10:",
-        b"[ %0 ]:\n  1 => %10\n  X => (empty)\n",
-        13,
-        b"[ %1 ]:\n  1 => %20\n  X => (empty)\n",
+    print!(rt; "setting 6:{}", Told(m.normalize(), m))?;
+    let parent = text::read(b"[ %0 ]:\n  1 => %10\n  X => (empty)\n").matrix;
+    let child = text::read(b"[ %1 ]:\n  1 => %20\n  X => (empty)\n").matrix;
+    print!(rt;
+        "setting 10:{}",
+        Told(parent.merge(cell(10), child), parent)
     )?;
-    setting_11(rt)
-}
-
-// "Trits 0, 1, X, 0, 1 from highest"
-fn setting_11(rt: &impl Print) -> io::Result<()> {
-    let nets = [3u16; 5];
-    let m = matrix::Matrix::new(&nets).matrix;
-    calls::add_none(rt, b"setting 11:", m, b"\x01\x00\x02\x01\x00")
+    let m = Matrix::new(&[3; 5]).matrix;
+    print!(rt; "setting 11:{}", Told(m.add(&[1, 0, 2, 1, 0], &[]), m))
 }
 
 // "64 rows: enable 1 accepted, enable %5 refused 2. 16 columns: enable 1 accepted, 0 refused 1."
 fn setting_12(rt: &impl Print) -> io::Result<()> {
-    let m = tall();
-    calls::enable_made(rt, b"setting 12, 64 rows, enable 1:", m, 1, m)?;
-    calls::enable_made(rt, b"setting 12, 64 rows, enable %5:", m, 8, m)?;
-    let w = wide();
-    calls::enable_made(rt, b"setting 12, 16 columns, enable 1:", w, 1, w)?;
-    calls::enable_made(rt, b"setting 12, 16 columns, enable 0:", w, 0, w)
+    for (name, m, enable) in [
+        ("64 rows, enable 1", tall(), Net::Const(Trit::One)),
+        ("64 rows, enable %5", tall(), cell(5)),
+        ("16 columns, enable 1", wide(), Net::Const(Trit::One)),
+        ("16 columns, enable 0", wide(), Net::Const(Trit::Zero)),
+    ] {
+        println!(rt; "setting 12, {name}:{}", Kept(m.add_enable(enable), m))?;
+    }
+    Ok(())
 }
 
 // "%9999 accepted, %10000 refused 4."
 fn setting_12_nets(rt: &impl Print) -> io::Result<()> {
-    let last = [10002u16; 1];
-    say::told(
-        rt,
-        b"setting 12, %9999:",
-        matrix::Matrix::new(&last),
-        say::blank(),
+    print!(rt;
+        "setting 12, %9999:{}",
+        Told(Matrix::new(&[10002]), blank())
     )?;
-    let over = [10003u16; 1];
-    say::told(
-        rt,
-        b"setting 12, %10000:",
-        matrix::Matrix::new(&over),
-        say::blank(),
+    print!(rt;
+        "setting 12, %10000:{}",
+        Told(Matrix::new(&[10003]), blank())
     )
 }
 
-// 64 rows of don't-cares.
-pub(crate) fn tall() -> matrix::Matrix {
-    text::read(
-        b"[ %0 ]:\n  X => (empty)\n  X => (empty)\n  X => (empty)\n  X => (empty)\n  X => (empty)\n  X => (empty)\n  X => (empty)\n  X => (empty)\n  X => (empty)\n  X => (empty)\n  X => (empty)\n  X => (empty)\n  X => (empty)\n  X => (empty)\n  X => (empty)\n  X => (empty)\n  X => (empty)\n  X => (empty)\n  X => (empty)\n  X => (empty)\n  X => (empty)\n  X => (empty)\n  X => (empty)\n  X => (empty)\n  X => (empty)\n  X => (empty)\n  X => (empty)\n  X => (empty)\n  X => (empty)\n  X => (empty)\n  X => (empty)\n  X => (empty)\n  X => (empty)\n  X => (empty)\n  X => (empty)\n  X => (empty)\n  X => (empty)\n  X => (empty)\n  X => (empty)\n  X => (empty)\n  X => (empty)\n  X => (empty)\n  X => (empty)\n  X => (empty)\n  X => (empty)\n  X => (empty)\n  X => (empty)\n  X => (empty)\n  X => (empty)\n  X => (empty)\n  X => (empty)\n  X => (empty)\n  X => (empty)\n  X => (empty)\n  X => (empty)\n  X => (empty)\n  X => (empty)\n  X => (empty)\n  X => (empty)\n  X => (empty)\n  X => (empty)\n  X => (empty)\n  X => (empty)\n  X => (empty)\n",
-    ).matrix
+// A matrix of one column and as many rows of a don't-care as there are bytes for.
+pub(crate) fn tall_text<const N: usize>() -> [u8; N] {
+    let mut text = [0; N];
+    if let Some((head, rows)) = text.split_first_chunk_mut() {
+        *head = *HEAD;
+        for row in rows.chunks_exact_mut(ROW.len()) {
+            row.copy_from_slice(ROW);
+        }
+    }
+    text
 }
 
-// 16 columns, and a row.
-pub(crate) fn wide() -> matrix::Matrix {
+// 64 rows of don't-cares.
+pub(crate) fn tall() -> Matrix {
+    text::read(&tall_text::<TALL>()).matrix
+}
+
+pub(crate) fn wide() -> Matrix {
     text::read(
         b"[ %15 %14 %13 %12 %11 %10 %9 %8 %7 %6 %5 %4 %3 %2 %1 %0 ]:\n  XXXX_XXXX_XXXX_XXXX => %20\n",
     ).matrix

@@ -4,14 +4,12 @@
 
 mod adds;
 mod bench;
-mod calls;
 mod handed;
 mod merges;
 mod news;
 mod outs;
 mod prints;
 mod reads;
-mod same;
 mod say;
 mod steps;
 mod tally;
@@ -27,11 +25,7 @@ fn main(rt: HostRuntime) -> io::Result<()> {
     merges::all(&rt)?;
     steps::all(&rt)?;
     outs::all(&rt)?;
-    of_texts(&rt)
-}
-
-fn of_texts(rt: &impl Print) -> io::Result<()> {
-    prints::all(rt)?;
-    reads::all(rt)?;
-    wrong::all(rt)
+    prints::all(&rt)?;
+    reads::all(&rt)?;
+    wrong::all(&rt)
 }

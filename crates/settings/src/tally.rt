@@ -1,55 +1,38 @@
 // How many calls were accepted, and how many were refused by which number.
-use crate::say;
-use std::io;
+use rules::Refusal;
+use std::fmt;
 
-#[derive(Clone, Copy)]
-pub struct Tally {
+const NET: u8 = Refusal::Net as u8;
+
+const FORM: u8 = Refusal::Form as u8;
+
+#[derive(Clone, Copy, Default)]
+pub(crate) struct Tally {
     accepted: u64,
     net: u64,
     form: u64,
-    other: u64,
+    others: u64,
 }
 
-const NET: u8 = 4;
-
-const FORM: u8 = 12;
-
-pub(crate) fn start() -> Tally {
-    Tally {
-        accepted: 0,
-        net: 0,
-        form: 0,
-        other: 0,
+impl Tally {
+    // A call that gave this number, 0 where accepted.
+    pub(crate) fn count(&mut self, no: u8) {
+        let calls = match no {
+            0 => &mut self.accepted,
+            NET => &mut self.net,
+            FORM => &mut self.form,
+            _ => &mut self.others,
+        };
+        *calls = calls.saturating_add(1);
     }
 }
 
-fn more(n: u64) -> u64 {
-    std::num::wrapping_add_u64(n, 1)
-}
-
-pub(crate) fn with(t: Tally, no: u8) -> Tally {
-    let mut n = t;
-    if no == 0 {
-        n.accepted = more(t.accepted);
-    } else if no == NET {
-        n.net = more(t.net);
-    } else if no == FORM {
-        n.form = more(t.form);
-    } else {
-        n.other = more(t.other);
+impl fmt::Display for Tally {
+    fn fmt<W: fmt::Write>(&self, f: &mut fmt::Formatter<W>) -> fmt::Result {
+        write!(
+            f,
+            "{} accepted, {} refused {NET}, {} refused {FORM}, {} others",
+            self.accepted, self.net, self.form, self.others
+        )
     }
-    n
-}
-
-fn part(rt: &impl Print, n: u64, word: &[u8]) -> io::Result<()> {
-    say::next(rt, n as usize)?;
-    say::text(rt, word)
-}
-
-pub(crate) fn told(rt: &impl Print, label: &[u8], t: Tally) -> io::Result<()> {
-    say::text(rt, label)?;
-    part(rt, t.accepted, b" accepted,")?;
-    part(rt, t.net, b" refused 4,")?;
-    part(rt, t.form, b" refused 12,")?;
-    part(rt, t.other, b" others\n")
 }

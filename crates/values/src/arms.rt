@@ -1,5 +1,5 @@
 // A mux whose select is unknown, and muxes whose select is not.
-use crate::ask;
+use crate::ask::{Answer, Sign, Table};
 use std::io;
 
 // The cells that the first two entries drive.
@@ -7,29 +7,35 @@ const FIRST: u16 = rules::CELL_MAX + 1;
 
 const SECOND: u16 = FIRST + 1;
 
-fn mux(rt: &impl Print, name: &[u8], table: &[u16]) -> io::Result<()> {
-    let none = [0u8; 0];
-    ask::cell(rt, name, table, 1, &none, FIRST)
+fn mux(muxes: &[u16]) -> Answer<Sign> {
+    Table {
+        muxes,
+        used: 1,
+        trits: &[],
+    }
+    .cell(FIRST)
 }
 
 pub(crate) fn unknown(rt: &impl Print) -> io::Result<()> {
-    mux(rt, b"select X, arms 1: ", &[2, 1, 1])?;
-    mux(rt, b"select X, arms 0: ", &[2, 0, 0])?;
-    mux(rt, b"select X, arms X: ", &[2, 2, 2])?;
-    mux(rt, b"select X, arms 1 and 0: ", &[2, 1, 0])?;
-    mux(rt, b"select %0 unknown, arms %1 unknown: ", &[3, 4, 4])
+    for (name, entry) in [
+        ("select X, arms 1", [2, 1, 1]),
+        ("select X, arms 0", [2, 0, 0]),
+        ("select X, arms X", [2, 2, 2]),
+        ("select X, arms 1 and 0", [2, 1, 0]),
+        ("select %0 unknown, arms %1 unknown", [3, 4, 4]),
+    ] {
+        println!(rt; "{name}: {}", mux(&entry))?;
+    }
+    Ok(())
 }
 
 pub(crate) fn known(rt: &impl Print) -> io::Result<()> {
-    mux(rt, b"select 1: ", &[1, 0, 1])?;
-    mux(rt, b"select 0: ", &[0, 0, 1])?;
-    let none = [0u8; 0];
-    ask::cell(
-        rt,
-        b"an entry before: ",
-        &[2, 1, 1, 10003, 0, 1],
-        2,
-        &none,
-        SECOND,
-    )
+    println!(rt; "select 1: {}", mux(&[1, 0, 1]))?;
+    println!(rt; "select 0: {}", mux(&[0, 0, 1]))?;
+    let two = Table {
+        muxes: &[2, 1, 1, 10003, 0, 1],
+        used: 2,
+        trits: &[],
+    };
+    println!(rt; "an entry before: {}", two.cell(SECOND))
 }

@@ -1,60 +1,66 @@
-// A net asked of a table, and what the evaluator answers: a line.
-use std::io;
+// A table that nets are asked of, and how an answer is written.
+use std::fmt;
 
-pub(crate) fn text(rt: &impl Print, s: &[u8]) -> io::Result<()> {
-    rt.write_all(s)
+// A mux table, how many of its entries are in use, and the trits that it is evaluated over.
+#[derive(Clone, Copy)]
+pub(crate) struct Table<'a> {
+    pub(crate) muxes: &'a [u16],
+    pub(crate) used: usize,
+    pub(crate) trits: &'a [u8],
 }
 
-pub(crate) fn trit(rt: &impl Print, t: rules::Trit) -> io::Result<()> {
-    match t {
-        rules::Trit::Zero => text(rt, b"0\n"),
-        rules::Trit::One => text(rt, b"1\n"),
-        rules::Trit::Undef => text(rt, b"X\n"),
+impl Table<'_> {
+    pub(crate) fn net(&self, asked: rules::Net) -> Answer<Sign> {
+        let answer = evaluate::evaluate(self.muxes, self.used, self.trits, asked);
+        Answer(answer.map(Sign).map_err(u8::from))
+    }
+
+    pub(crate) fn cell(&self, asked: u16) -> Answer<Sign> {
+        self.net(rules::Net::Cell(rules::Cell(asked)))
+    }
+
+    // The constant 1 asked: only the table can be at fault.
+    pub(crate) fn form(&self) -> Answer<Sign> {
+        self.net(rules::Net::Const(rules::Trit::One))
     }
 }
 
-pub(crate) fn number(rt: &impl Print, n: u64) -> io::Result<()> {
-    println!(rt; "{n}")
-}
+// A trit as it is written.
+#[derive(Clone, Copy)]
+pub(crate) struct Sign(pub(crate) rules::Trit);
 
-pub(crate) fn refused(rt: &impl Print, no: u8) -> io::Result<()> {
-    text(rt, b"refused ")?;
-    number(rt, no as u64)
-}
-
-fn answer(rt: &impl Print, v: evaluate::Value) -> io::Result<()> {
-    match v {
-        evaluate::Value::Trit(t) => trit(rt, t),
-        evaluate::Value::Refused(no) => refused(rt, no),
+impl fmt::Display for Sign {
+    fn fmt<W: fmt::Write>(&self, f: &mut fmt::Formatter<W>) -> fmt::Result {
+        f.write_str(match self.0 {
+            rules::Trit::Zero => "0",
+            rules::Trit::One => "1",
+            rules::Trit::Undef => "X",
+        })
     }
 }
 
-pub(crate) fn net(
-    rt: &impl Print,
-    name: &[u8],
-    table: &[u16],
-    count: usize,
-    trits: &[u8],
-    asked: rules::Net,
-) -> io::Result<()> {
-    text(rt, name)?;
-    answer(rt, evaluate::evaluate(table, count, trits, asked))
+// A net as it is written.
+#[derive(Clone, Copy)]
+pub(crate) struct Name(pub(crate) rules::Net);
+
+impl fmt::Display for Name {
+    fn fmt<W: fmt::Write>(&self, f: &mut fmt::Formatter<W>) -> fmt::Result {
+        match self.0 {
+            rules::Net::Const(t) => Sign(t).fmt(f),
+            rules::Net::Cell(c) => write!(f, "%{}", c.0),
+        }
+    }
 }
 
-pub(crate) fn cell(
-    rt: &impl Print,
-    name: &[u8],
-    table: &[u16],
-    count: usize,
-    trits: &[u8],
-    asked: u16,
-) -> io::Result<()> {
-    net(
-        rt,
-        name,
-        table,
-        count,
-        trits,
-        rules::Net::Cell(rules::Cell(asked)),
-    )
+// What a call answers, or the number that it refuses with.
+#[derive(Clone, Copy)]
+pub(crate) struct Answer<T>(pub(crate) Result<T, u8>);
+
+impl<T: fmt::Display> fmt::Display for Answer<T> {
+    fn fmt<W: fmt::Write>(&self, f: &mut fmt::Formatter<W>) -> fmt::Result {
+        match &self.0 {
+            Ok(value) => value.fmt(f),
+            Err(no) => write!(f, "refused {no}"),
+        }
+    }
 }

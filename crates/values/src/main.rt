@@ -15,22 +15,11 @@ use std::io;
 fn main(rt: HostRuntime) -> io::Result<()> {
     codes::all(&rt)?;
     nine::values(&rt)?;
-    nets(&rt)?;
+    cells::all(&rt)?;
+    places::all(&rt)?;
     arms::unknown(&rt)?;
     arms::known(&rt)?;
-    entries(&rt)
-}
-
-fn nets(rt: &impl Print) -> io::Result<()> {
-    cells::given(rt)?;
-    cells::constants(rt)?;
-    cells::driven(rt)?;
-    places::all(rt)
-}
-
-fn entries(rt: &impl Print) -> io::Result<()> {
-    tables::counts(rt)?;
-    tables::operands(rt)?;
-    tables::full(rt)?;
-    tables::long(rt)
+    tables::forms(&rt)?;
+    tables::full(&rt)?;
+    tables::long(&rt)
 }
