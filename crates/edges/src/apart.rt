@@ -1,5 +1,7 @@
 // Disjoint emission: its updates, its default, and which number comes first.
-use crate::{numbers, say};
+use crate::numbers::{self, Numbers};
+use crate::say;
+use crate::trees::{self, Tree};
 use std::io;
 
 // Numbers of the longest table here: one entry more than may be used.
@@ -10,461 +12,213 @@ const BITS: usize = rules::WIDTH_MAX + 2;
 
 const UPDATES: usize = 4;
 
-// Numbers of the largest tree here.
-const TREE: usize = 3 * tree::inner::NODE_RUN;
-
-fn lower(
-    rt: &impl Print,
-    store: &[u16],
-    root: usize,
-    nets: &[u16],
-    widths: &[usize],
-    bits: &[u16],
-    default: &[u16],
+// What is emitted: the updates of a tree, each with its bits among all bits, into a table of which so many entries are in use.
+#[derive(Clone, Copy)]
+struct Asked {
+    tree: Tree,
+    nets: &'static str,
+    widths: &'static [usize],
+    bits: &'static str,
+    default: &'static str,
     count: usize,
-    table: &mut [u16],
-) -> io::Result<()> {
-    let e = emit::disjoint(
-        store,
-        rules::Place(root),
-        nets,
-        widths,
-        bits,
-        default,
-        count,
-        table,
-    );
-    say::emitted(rt, e)?;
-    numbers::show(rt, table)
+    table: &'static str,
 }
 
-fn tabled(
-    rt: &impl Print,
-    store: &[u16],
-    root: usize,
-    nets: &[u16],
-    widths: &[usize],
-    bits: &[u16],
-    default: &[u16],
-    table: &[u8],
-) -> io::Result<()> {
-    let mut lent = [0u16; TABLE];
-    let n = numbers::fill(table, &mut lent);
-    lower(
-        rt,
-        store,
-        root,
-        nets,
-        widths,
-        bits,
-        default,
-        0,
-        &mut lent[..n],
-    )
-}
+// Of setting 1, one update of two bits, into an empty table of just as many entries.
+const ONE: Asked = Asked {
+    tree: trees::ONE,
+    nets: "13",
+    widths: &[2; UPDATES],
+    bits: "4 5",
+    default: "0 1",
+    count: 0,
+    table: "65535*6",
+};
 
-fn defaulted(
-    rt: &impl Print,
-    store: &[u16],
-    root: usize,
-    nets: &[u16],
-    widths: &[usize],
-    bits: &[u16],
-    default: &[u8],
-    table: &[u8],
-) -> io::Result<()> {
-    let mut lent = [0u16; BITS];
-    let n = numbers::fill(default, &mut lent);
-    tabled(rt, store, root, nets, widths, bits, &lent[..n], table)
-}
+// Of setting 9, two updates of which one is in both leaves.
+const NINE: Asked = Asked {
+    tree: trees::NINE,
+    nets: "13 15",
+    bits: "4 5 6 7",
+    ..ONE
+};
 
-fn updated(
-    rt: &impl Print,
-    store: &[u16],
-    root: usize,
-    nets: &[u8],
-    widths: &[usize],
-    bits: &[u8],
-    default: &[u8],
-    table: &[u8],
-) -> io::Result<()> {
-    let mut targets = [0u16; UPDATES];
-    let n = numbers::fill(nets, &mut targets);
-    let mut lent = [0u16; BITS];
-    let k = numbers::fill(bits, &mut lent);
-    defaulted(
-        rt,
-        store,
-        root,
-        &targets[..n],
-        widths,
-        &lent[..k],
-        default,
-        table,
-    )
-}
+// Of one leaf, no updates.
+const LEAF: Asked = Asked {
+    tree: trees::LEAF,
+    nets: "",
+    bits: "",
+    table: "65535*3",
+    ..ONE
+};
 
-fn apart(
-    rt: &impl Print,
-    name: &[u8],
-    tree: &[u8],
-    root: usize,
-    nets: &[u8],
-    widths: &[usize],
-    bits: &[u8],
-    default: &[u8],
-    table: &[u8],
-) -> io::Result<()> {
-    say::text(rt, name)?;
-    let mut store = [0u16; TREE];
-    let n = numbers::fill(tree, &mut store);
-    updated(rt, &store[..n], root, nets, widths, bits, default, table)
-}
+impl Asked {
+    // Of another tree.
+    fn of(self, tree: Tree) -> Asked {
+        Asked { tree, ..self }
+    }
 
-// The tree of setting 1, and updates of two bits.
-fn one(
-    rt: &impl Print,
-    name: &[u8],
-    nets: &[u8],
-    bits: &[u8],
-    default: &[u8],
-    table: &[u8],
-) -> io::Result<()> {
-    let widths = [2usize; UPDATES];
-    wide(rt, name, nets, &widths, bits, default, table)
-}
+    fn nets(self, nets: &'static str) -> Asked {
+        Asked { nets, ..self }
+    }
 
-fn wide(
-    rt: &impl Print,
-    name: &[u8],
-    nets: &[u8],
-    widths: &[usize],
-    bits: &[u8],
-    default: &[u8],
-    table: &[u8],
-) -> io::Result<()> {
-    apart(
-        rt,
-        name,
-        b"1 10 0*7 1 11 0*7 9 0 1 0*6",
-        2,
-        nets,
-        widths,
-        bits,
-        default,
-        table,
-    )
-}
+    fn widths(self, widths: &'static [usize]) -> Asked {
+        Asked { widths, ..self }
+    }
 
-// The tree of setting 9, whose leaves name two rules.
-fn nine(
-    rt: &impl Print,
-    name: &[u8],
-    nets: &[u8],
-    bits: &[u8],
-    default: &[u8],
-    table: &[u8],
-) -> io::Result<()> {
-    let widths = [2usize; UPDATES];
-    apart(
-        rt,
-        name,
-        b"2 10 12 0*6 2 11 12 0*6 9 0 1 0*6",
-        2,
-        nets,
-        &widths,
-        bits,
-        default,
-        table,
-    )
-}
+    fn bits(self, bits: &'static str) -> Asked {
+        Asked { bits, ..self }
+    }
 
-// One leaf, which names %10, and no updates.
-fn leaf(rt: &impl Print, name: &[u8], default: &[u8]) -> io::Result<()> {
-    let none = [0usize; 1];
-    apart(
-        rt,
-        name,
-        b"1 10 0*7",
-        0,
-        b"",
-        &none,
-        b"",
-        default,
-        b"65535*3",
-    )
+    fn default(self, default: &'static str) -> Asked {
+        Asked { default, ..self }
+    }
+
+    fn used(self, count: usize) -> Asked {
+        Asked { count, ..self }
+    }
+
+    fn table(self, table: &'static str) -> Asked {
+        Asked { table, ..self }
+    }
+
+    // The answer, and the whole table afterwards.
+    fn show(self, rt: &impl Print, name: &str) -> io::Result<()> {
+        let mut store = [0; trees::ROOM];
+        let mut nets = [0; UPDATES];
+        let mut bits = [0; BITS];
+        let mut default = [0; BITS];
+        let mut room = [0; TABLE];
+        let table = numbers::fill(self.table, &mut room);
+        let answer = emit::disjoint(
+            self.tree.fill(&mut store),
+            self.tree.root(),
+            numbers::fill(self.nets, &mut nets),
+            self.widths,
+            numbers::fill(self.bits, &mut bits),
+            numbers::fill(self.default, &mut default),
+            self.count,
+            table,
+        );
+        print!(rt; "{name}: ")?;
+        say::emitted(rt, answer)?;
+        rt.println(Numbers(table))
+    }
 }
 
 pub(crate) fn updates(rt: &impl Print) -> io::Result<()> {
-    one(
-        rt,
-        b"disjoint, one update: ",
-        b"13",
-        b"4 5",
-        b"0 1",
-        b"65535*9",
-    )?;
-    one(
-        rt,
-        b"disjoint, two updates: ",
-        b"13 14",
-        b"4 5 6 7",
-        b"0 1",
-        b"65535*9",
-    )?;
-    one(
-        rt,
-        b"disjoint, two for one net: ",
-        b"13*2",
-        b"4 5 6 7",
-        b"0 1",
-        b"65535*6",
-    )?;
-    one(
-        rt,
-        b"disjoint, update in no leaf: ",
-        b"23",
-        b"4 5",
-        b"0 1",
-        b"65535*6",
-    )?;
-    one(rt, b"disjoint, no updates: ", b"", b"", b"2 8", b"65535*6")?;
-    nine(
-        rt,
-        b"disjoint, each leaf one: ",
-        b"13 14",
-        b"4 5 6 7",
-        b"0 1",
-        b"65535*6",
-    )?;
-    nine(
-        rt,
-        b"disjoint, one in both leaves: ",
-        b"15*2",
-        b"4 5 6 7",
-        b"0 1",
-        b"65535*6",
-    )
+    ONE.table("65535*9").show(rt, "disjoint, one update")?;
+    ONE.nets("13 14")
+        .bits("4 5 6 7")
+        .table("65535*9")
+        .show(rt, "disjoint, two updates")?;
+    ONE.nets("13*2")
+        .bits("4 5 6 7")
+        .show(rt, "disjoint, two for one net")?;
+    ONE.nets("23").show(rt, "disjoint, update in no leaf")?;
+    ONE.nets("")
+        .bits("")
+        .default("2 8")
+        .show(rt, "disjoint, no updates")?;
+    NINE.nets("13 14").show(rt, "disjoint, each leaf one")?;
+    NINE.nets("15*2").show(rt, "disjoint, one in both leaves")
 }
 
 pub(crate) fn overlaps(rt: &impl Print) -> io::Result<()> {
-    nine(rt, b"overlap: ", b"13 15", b"4 5 6 7", b"0 1", b"65535*6")?;
-    nine(rt, b"overlap, no room: ", b"13 15", b"4 5 6 7", b"0 1", b"")?;
-    nine(
-        rt,
-        b"overlap, a width: ",
-        b"13 15",
-        b"4 5 6",
-        b"0 1",
-        b"65535*6",
-    )?;
-    nine(rt, b"overlap, no bits: ", b"13 15", b"", b"", b"65535*6")?;
-    nine(
-        rt,
-        b"overlap, a net: ",
-        b"13 15",
-        b"4 5 6 10003",
-        b"0 1",
-        b"65535*6",
-    )?;
-    nine(
-        rt,
-        b"overlap, no net: ",
-        b"13 15",
-        b"4 5 6 18195",
-        b"0 1",
-        b"65535*6",
-    )
+    NINE.show(rt, "overlap")?;
+    NINE.table("").show(rt, "overlap, no room")?;
+    NINE.bits("4 5 6").show(rt, "overlap, a width")?;
+    NINE.bits("").default("").show(rt, "overlap, no bits")?;
+    NINE.bits("4 5 6 10003").show(rt, "overlap, a net")?;
+    NINE.bits("4 5 6 18195").show(rt, "overlap, no net")
 }
 
 pub(crate) fn widths(rt: &impl Print) -> io::Result<()> {
-    let ones = [1usize; 1];
-    wide(
-        rt,
-        b"update of 1 bit: ",
-        b"13",
-        &ones,
-        b"4 5",
-        b"0 1",
-        b"65535*6",
-    )?;
-    let more = [3usize; 1];
-    wide(
-        rt,
-        b"update of 3 bits: ",
-        b"13",
-        &more,
-        b"4 5 6",
-        b"0 1",
-        b"65535*6",
-    )?;
-    wide(
-        rt,
-        b"second update without width: ",
-        b"13 14",
-        &ones,
-        b"4 5",
-        b"0",
-        b"65535*6",
-    )?;
-    one(rt, b"bits cut: ", b"13", b"4", b"0 1", b"65535*6")?;
-    one(rt, b"a width in no leaf: ", b"23", b"4", b"0 1", b"65535*6")?;
-    let mixed = [1usize, 2];
-    wide(
-        rt,
-        b"a width replaced later: ",
-        b"13*2",
-        &mixed,
-        b"4 5 6",
-        b"0 1",
-        b"65535*6",
-    )?;
-    leaf(rt, b"default of 64 bits: ", b"5*64")?;
-    leaf(rt, b"default of 65 bits: ", b"5*65")?;
-    leaf(rt, b"default of no bits: ", b"")
+    ONE.widths(&[1]).show(rt, "update of 1 bit")?;
+    ONE.widths(&[3]).bits("4 5 6").show(rt, "update of 3 bits")?;
+    ONE.nets("13 14")
+        .widths(&[1])
+        .default("0")
+        .show(rt, "second update without width")?;
+    ONE.bits("4").show(rt, "bits cut")?;
+    ONE.nets("23").bits("4").show(rt, "a width in no leaf")?;
+    ONE.nets("13*2")
+        .widths(&[1, 2])
+        .bits("4 5 6")
+        .show(rt, "a width replaced later")?;
+    LEAF.default("5*64").show(rt, "default of 64 bits")?;
+    LEAF.default("5*65").show(rt, "default of 65 bits")?;
+    LEAF.default("").show(rt, "default of no bits")
 }
 
 pub(crate) fn nets(rt: &impl Print) -> io::Result<()> {
-    one(
-        rt,
-        b"bit %9999: ",
-        b"13",
-        b"4 10002",
-        b"0 10002",
-        b"65535*6",
-    )?;
-    one(rt, b"bit %10000: ", b"13", b"4 10003", b"0 1", b"65535*6")?;
-    one(
-        rt,
-        b"default bit %10000: ",
-        b"13",
-        b"4 5",
-        b"0 10003",
-        b"65535*6",
-    )?;
-    one(rt, b"update for 1: ", b"1", b"4 5", b"0 1", b"65535*6")?;
-    one(
-        rt,
-        b"update for %10000: ",
-        b"10003",
-        b"4 5",
-        b"0 1",
-        b"65535*6",
-    )?;
-    one(
-        rt,
-        b"update for %18191: ",
-        b"18194",
-        b"4 5",
-        b"0 1",
-        b"65535*6",
-    )?;
-    one(
-        rt,
-        b"update for no net: ",
-        b"18195",
-        b"4 5",
-        b"0 1",
-        b"65535*6",
-    )?;
-    one(rt, b"bit %18191: ", b"13", b"4 18194", b"0 1", b"65535*6")?;
-    one(rt, b"bit no net: ", b"1", b"4 18195", b"0 1", b"65535*6")?;
-    one(
-        rt,
-        b"default bit no net: ",
-        b"1",
-        b"4 5",
-        b"18195 1",
-        b"65535*6",
-    )?;
-    one(rt, b"bit over: ", b"13", b"4 5 18195", b"0 1", b"65535*6")
+    ONE.bits("4 10002")
+        .default("0 10002")
+        .show(rt, "bit %9999")?;
+    ONE.bits("4 10003").show(rt, "bit %10000")?;
+    ONE.default("0 10003").show(rt, "default bit %10000")?;
+    ONE.nets("1").show(rt, "update for 1")?;
+    ONE.nets("10003").show(rt, "update for %10000")?;
+    ONE.nets("18194").show(rt, "update for %18191")?;
+    ONE.nets("18195").show(rt, "update for no net")?;
+    ONE.bits("4 18194").show(rt, "bit %18191")?;
+    ONE.nets("1").bits("4 18195").show(rt, "bit no net")?;
+    ONE.nets("1")
+        .default("18195 1")
+        .show(rt, "default bit no net")?;
+    ONE.bits("4 5 18195").show(rt, "bit over")
 }
 
 pub(crate) fn rooms(rt: &impl Print) -> io::Result<()> {
-    one(rt, b"disjoint, full: ", b"13", b"4 5", b"0 1", b"65535*6")?;
-    one(
-        rt,
-        b"disjoint, one short: ",
-        b"13",
-        b"4 5",
-        b"0 1",
-        b"65535*5",
-    )?;
-    one(
-        rt,
-        b"disjoint, and a part: ",
-        b"13",
-        b"4 5",
-        b"0 1",
-        b"65535*7",
-    )?;
-    one(rt, b"disjoint, no bits, no room: ", b"", b"", b"", b"")
-}
-
-// The tree of setting 1, one update of two bits, and entries in use.
-fn append(rt: &impl Print, store: &[u16], count: usize, table: &mut [u16]) -> io::Result<()> {
-    let nets = [13u16; 1];
-    let widths = [2usize; 1];
-    let bits = [4u16, 5];
-    let default = [0u16, 1];
-    lower(rt, store, 2, &nets, &widths, &bits, &default, count, table)
-}
-
-fn after(rt: &impl Print, name: &[u8], count: usize, table: &[u8]) -> io::Result<()> {
-    say::text(rt, name)?;
-    let mut store = [0u16; TREE];
-    let n = numbers::fill(b"1 10 0*7 1 11 0*7 9 0 1 0*6", &mut store);
-    let mut lent = [0u16; TABLE];
-    let k = numbers::fill(table, &mut lent);
-    append(rt, &store[..n], count, &mut lent[..k])
+    ONE.show(rt, "disjoint, full")?;
+    ONE.table("65535*5").show(rt, "disjoint, one short")?;
+    ONE.table("65535*7").show(rt, "disjoint, and a part")?;
+    ONE.nets("")
+        .bits("")
+        .default("")
+        .table("")
+        .show(rt, "disjoint, no bits, no room")
 }
 
 pub(crate) fn long_tables(rt: &impl Print) -> io::Result<()> {
-    after(rt, b"disjoint, 8,192 entries: ", 8190, b"0*24570 65535*6")?;
-    after(
-        rt,
-        b"disjoint, 8,192 entries, one short: ",
-        8191,
-        b"0*24573 65535*3",
-    )?;
-    after(
-        rt,
-        b"disjoint, 8,193 entries, one short: ",
-        8191,
-        b"0*24573 65535*6",
-    )
+    ONE.used(8190)
+        .table("0*24570 65535*6")
+        .show(rt, "disjoint, 8,192 entries")?;
+    ONE.used(8191)
+        .table("0*24573 65535*3")
+        .show(rt, "disjoint, 8,192 entries, one short")?;
+    ONE.used(8191)
+        .table("0*24573 65535*6")
+        .show(rt, "disjoint, 8,193 entries, one short")
 }
 
 pub(crate) fn tables(rt: &impl Print) -> io::Result<()> {
-    after(rt, b"disjoint, one in use, full: ", 1, b"3 1 2 65535*6")?;
-    after(rt, b"disjoint, one in use, short: ", 1, b"3 1 2 65535*5")?;
-    after(rt, b"disjoint, more in use than there are: ", 2, b"0*3")?;
-    after(
-        rt,
-        b"disjoint, 2^64 - 1 in use: ",
-        18446744073709551615,
-        b"0*3",
-    )?;
-    after(
-        rt,
-        b"disjoint, select driven by itself: ",
-        1,
-        b"10003 1 0 0*6",
-    )
+    ONE.used(1)
+        .table("3 1 2 65535*6")
+        .show(rt, "disjoint, one in use, full")?;
+    ONE.used(1)
+        .table("3 1 2 65535*5")
+        .show(rt, "disjoint, one in use, short")?;
+    ONE.used(2)
+        .table("0*3")
+        .show(rt, "disjoint, more in use than there are")?;
+    ONE.used(usize::MAX)
+        .table("0*3")
+        .show(rt, "disjoint, 2^64 - 1 in use")?;
+    ONE.used(1)
+        .table("10003 1 0 0*6")
+        .show(rt, "disjoint, select driven by itself")
 }
 
 // A tree that is malformed is 12 before a constant target.
-pub(crate) fn trees(rt: &impl Print) -> io::Result<()> {
-    let widths = [2usize; 1];
-    apart(
-        rt,
-        b"disjoint, bad tree: ",
-        b"0*18",
-        1,
-        b"1",
-        &widths,
-        b"4 5",
-        b"0",
-        b"",
-    )
+pub(crate) fn malformed(rt: &impl Print) -> io::Result<()> {
+    ONE.of(Tree {
+        store: "0*18",
+        root: 1,
+    })
+    .nets("1")
+    .widths(&[2])
+    .default("0")
+    .table("")
+    .show(rt, "disjoint, bad tree")
 }

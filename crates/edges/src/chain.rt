@@ -1,8 +1,12 @@
 // A chain as deep as a store lets it be: its check, its muxes and its text.
-use crate::{handed, numbers, say};
-use std::io;
+ghost use Rattle.std.specs.Prelude.{◌≤◌};
 
-const RUN: usize = tree::inner::NODE_RUN;
+use crate::numbers::Numbers;
+use crate::say;
+use evaluate::inner::MUX_RUN;
+use rules::Place;
+use std::io;
+use tree::inner::NODE_RUN;
 
 // The deepest chain whose root is among the first 1,024 entries.
 const DEEP: u16 = 511;
@@ -10,8 +14,8 @@ const DEEP: u16 = 511;
 // Entries of a chain one deeper.
 const CHAIN: usize = 1025;
 
-// Numbers of one mux more than the deepest chain takes.
-const TABLE: usize = 512 * evaluate::inner::MUX_RUN;
+// Muxes of a chain one deeper.
+const MUXES: usize = 512;
 
 // Bytes of the deepest chain's text.
 const TEXT: usize = 266638;
@@ -22,134 +26,75 @@ const FIRST: usize = 10;
 // Bytes of its last line without the indent.
 const LAST: usize = 18;
 
-fn set(store: &mut [u16], at: usize, x: u16) {
-    if at < store.len() {
-        store[at] = x;
+// The root of the deepest chain.
+const ROOT: Place = Place(1022);
+
+// A chain in zeros: every zero arm is empty, and the last one arm names %1000. A branch stands after those below it.
+fn chain(depth: u16) -> [[u16; NODE_RUN]; CHAIN]
+    requires { depth ≤ 512 }
+{
+    let mut store = [[0; NODE_RUN]; CHAIN];
+    store[usize::from(depth)] = [1, 1000, 0, 0, 0, 0, 0, 0, 0];
+    // How many branches stand below one gives its place and its numbers.
+    for below in 0..depth {
+        let branch = [9, depth - 1 - below, 2 * below + 1, 0, 0, 0, 0, 0, 0];
+        store[usize::from(depth + 1 + below)] = branch;
     }
+    store
 }
 
-// The branch that tests cell `test`: those below it stand before it.
-fn branch(store: &mut [u16], depth: u16, test: u16) {
-    if depth > DEEP + 1 {
-        return;
+fn check(rt: &impl Print, name: &str, store: &[u16], root: Place) -> io::Result<()> {
+    print!(rt; "{name}: ")?;
+    say::checked(rt, tree::check(store, root))
+}
+
+// One-hot of %1000: the first two muxes, the last, and what follows.
+fn muxes(rt: &impl Print, store: &[u16]) -> io::Result<()> {
+    let mut table = [65535; MUXES * MUX_RUN];
+    let answer = emit::one_hot(store, ROOT, &[1003], 0, &mut table);
+    say::emitted(rt, answer)?;
+    let first = table[..2 * MUX_RUN].chunks_exact(MUX_RUN);
+    let last = table[(MUXES - 2) * MUX_RUN..].chunks_exact(MUX_RUN);
+    for mux in first.chain(last) {
+        rt.println(Numbers(mux))?;
     }
-    if test >= depth {
-        return;
-    }
-    let below = depth - 1 - test;
-    let p = RUN * (depth as usize + 1 + below as usize);
-    set(store, p, 9);
-    set(store, p + 1, test);
-    set(store, p + 2, 2 * below + 1);
-}
-
-fn branches(store: &mut [u16], depth: u16) {
-    let mut test = depth;
-    while test > 0 {
-        test -= 1;
-        branch(store, depth, test);
-    }
-}
-
-// A chain in zeros: every zero arm is empty, and the last one arm names %1000.
-fn build(store: &mut [u16], depth: u16) {
-    branches(store, depth);
-    let p = RUN * depth as usize;
-    set(store, p, 1);
-    set(store, p + 1, 1000);
-}
-
-fn size(rt: &impl Print, name: &[u8], store: &[u16], root: usize) -> io::Result<()> {
-    say::text(rt, name)?;
-    handed::check_in(rt, store, root)
-}
-
-fn entry(rt: &impl Print, table: &[u16], k: usize) -> io::Result<()> {
-    if k >= rules::MUX_MAX {
-        return Ok(());
-    }
-    let p = evaluate::inner::MUX_RUN * k;
-    let e = p + evaluate::inner::MUX_RUN;
-    if table.len() < e {
-        return Ok(());
-    }
-    numbers::show(rt, &table[p..e])
-}
-
-// The first two muxes, the last, and what follows.
-fn entries(rt: &impl Print, table: &[u16]) -> io::Result<()> {
-    entry(rt, table, 0)?;
-    entry(rt, table, 1)?;
-    entry(rt, table, 510)?;
-    entry(rt, table, 511)
-}
-
-// One-hot of %1000.
-fn lower(rt: &impl Print, store: &[u16], root: usize, table: &mut [u16]) -> io::Result<()> {
-    let outputs = [1003u16; 1];
-    say::emitted(
-        rt,
-        emit::one_hot(store, rules::Place(root), &outputs, 0, table),
-    )
-}
-
-fn muxes(rt: &impl Print, store: &[u16], root: usize) -> io::Result<()> {
-    let mut table = [65535u16; TABLE];
-    lower(rt, store, root, &mut table)?;
-    entries(rt, &table)
-}
-
-fn print_in(rt: &impl Print, store: &[u16], out: &mut [u8]) -> io::Result<()> {
-    say::counted(rt, text::print_tree(store, rules::Place(1022), out))
-}
-
-// The text's first line, and its last without the indent.
-fn ends(rt: &impl Print, out: &[u8]) -> io::Result<()> {
-    say::bytes(rt, out, FIRST)?;
-    if out.len() < LAST {
-        return Ok(());
-    }
-    let at = out.len() - LAST;
-    say::text(rt, &out[at..])
-}
-
-fn print_ends(rt: &impl Print, store: &[u16], out: &mut [u8]) -> io::Result<()> {
-    print_in(rt, store, out)?;
-    ends(rt, out)
+    Ok(())
 }
 
 // In one byte too few.
 fn short_text(rt: &impl Print, store: &[u16]) -> io::Result<()> {
-    let mut out = [0u8; TEXT - 1];
-    print_in(rt, store, &mut out)
+    let mut out = [0; TEXT - 1];
+    say::counted(rt, text::print_tree(store, ROOT, &mut out))
 }
 
+// The text's first line, and its last without the indent.
 fn whole_text(rt: &impl Print, store: &[u16]) -> io::Result<()> {
-    let mut out = [0u8; TEXT];
-    print_ends(rt, store, &mut out)
+    let mut out = [0; TEXT];
+    say::counted(rt, text::print_tree(store, ROOT, &mut out))?;
+    rt.write_all(&out[..FIRST])?;
+    rt.write_all(&out[TEXT - LAST..])
 }
 
 pub(crate) fn deepest(rt: &impl Print) -> io::Result<()> {
-    let mut store = [0u16; CHAIN * RUN];
-    build(&mut store, DEEP);
-    size(rt, b"chain of 511: ", &store, 1022)?;
-    muxes(rt, &store, 1022)?;
-    short_text(rt, &store)?;
-    whole_text(rt, &store)
+    let store = chain(DEEP);
+    let store = store.as_flattened();
+    check(rt, "chain of 511", store, ROOT)?;
+    muxes(rt, store)?;
+    short_text(rt, store)?;
+    whole_text(rt, store)
 }
 
 // The deepest branch tests the net of the root.
 pub(crate) fn spoiled(rt: &impl Print) -> io::Result<()> {
-    let mut store = [0u16; CHAIN * RUN];
-    build(&mut store, DEEP);
-    set(&mut store, RUN * 512 + 1, 0);
-    size(rt, b"chain of 511, last test as the first: ", &store, 1022)?;
-    muxes(rt, &store, 1022)
+    let mut store = chain(DEEP);
+    store[512][1] = 0;
+    let store = store.as_flattened();
+    check(rt, "chain of 511, last test as the first", store, ROOT)?;
+    muxes(rt, store)
 }
 
 // Its root would be at place 1,024.
 pub(crate) fn longer(rt: &impl Print) -> io::Result<()> {
-    let mut store = [0u16; CHAIN * RUN];
-    build(&mut store, DEEP + 1);
-    size(rt, b"chain of 512: ", &store, 1024)
+    let store = chain(DEEP + 1);
+    check(rt, "chain of 512", store.as_flattened(), Place(1024))
 }

@@ -10,6 +10,7 @@ mod hot;
 mod numbers;
 mod planted;
 mod say;
+mod trees;
 
 use std::io;
 
@@ -40,7 +41,7 @@ fn one_hots(rt: &impl Print) -> io::Result<()> {
     hot::rooms(rt)?;
     hot::long_tables(rt)?;
     hot::tables(rt)?;
-    hot::trees(rt)
+    hot::malformed(rt)
 }
 
 fn disjoints(rt: &impl Print) -> io::Result<()> {
@@ -51,7 +52,7 @@ fn disjoints(rt: &impl Print) -> io::Result<()> {
     apart::rooms(rt)?;
     apart::tables(rt)?;
     apart::long_tables(rt)?;
-    apart::trees(rt)
+    apart::malformed(rt)
 }
 
 fn prefixes(rt: &impl Print) -> io::Result<()> {

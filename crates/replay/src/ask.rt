@@ -1,192 +1,172 @@
 // One question each: our answer to a case, held against the file's.
-ghost use Rattle.std.specs.Prelude.{◌≤◌};
+use crate::emission::Ours;
+use crate::held;
+use matrix::{Made, Matrix};
+use rules::{Net, Place, Refusal, Trit};
+use tree::Built;
 
-use crate::{held, parse};
+// Room for the longest text of a matrix or of a tree.
+const TEXT_ROOM: usize = 65536;
 
-// The refusals of a store that is too short, and of a text.
-const NODES: u8 = 7;
+// One entry more than may be used.
+const STORE: usize = tree::inner::NODE_RUN * (rules::NODES_MAX + 1);
 
-const LINE: u8 = 11;
+const TABLE: usize = evaluate::inner::MUX_RUN * rules::MUX_MAX;
 
-fn prints(m: matrix::Matrix, text: &[u8], out: &mut [u8]) -> bool {
-    let text::Printed::Done(n) = text::print(m, out) else {
-        return false;
-    };
-    check::same(parse::part(out, 0, n), text)
+// What a call made, or 01's number: C passes the two side by side.
+fn accepted(made: Made) -> Result<Matrix, u8> {
+    match made.no {
+        0 => Ok(made.matrix),
+        no => Err(no),
+    }
 }
 
-pub(crate) fn made(r: matrix::Made, text: &[u8], out: &mut [u8]) -> bool {
-    if r.no != 0 {
-        return false;
+// A text that is not read is refused as no other call refuses.
+fn read(text: &[u8]) -> Result<Matrix, u8> {
+    let read = text::read(text);
+    match read.no {
+        0 => Ok(read.matrix),
+        no => Err(no),
     }
-    prints(r.matrix, text, out)
 }
 
-pub(crate) fn text(given: &[u8], out: &mut [u8]) -> bool {
-    let r = text::read(given);
-    if r.no != 0 {
-        return false;
+pub(crate) fn damaged(text: &[u8], line: usize) -> bool {
+    let read = text::read(text);
+    match line {
+        0 => read.no == 0,
+        _ => read.no == u8::from(Refusal::Line) && read.line == line,
     }
-    prints(r.matrix, given, out)
 }
 
-pub(crate) fn damaged(given: &[u8], line: usize) -> bool {
-    let r = text::read(given);
-    if line == 0 {
-        return r.no == 0;
-    }
-    if r.no != LINE {
-        return false;
-    }
-    r.line == line
+pub(crate) fn merge(parent: &[u8], child: &[u8], at: Net) -> Result<Matrix, u8> {
+    accepted(read(parent)?.merge(at, read(child)?))
 }
 
-// A text that is not read is refused as no merge is.
-pub(crate) fn merge(parent: &[u8], child: &[u8], at: u16) -> matrix::Made {
-    let p = text::read(parent);
-    let c = text::read(child);
-    let m = p.matrix;
-    if p.no != 0 {
-        return matrix::Made {
-            no: LINE,
-            matrix: m,
+// What a case is about: the text of its matrix, and the enable.
+#[derive(Clone, Copy)]
+pub(crate) struct Given<'a> {
+    pub text: &'a [u8],
+    pub enable: Net,
+}
+
+impl Given<'_> {
+    // Of a text that is not read, the matrix without columns and rows.
+    fn matrix(self) -> Matrix {
+        text::read(self.text).matrix
+    }
+
+    pub(crate) fn outputs(self, nets: &[u16]) -> bool {
+        let made = self.matrix().outputs();
+        made.no == 0 && made.nets.get(..made.count) == Some(nets)
+    }
+
+    pub(crate) fn enabled(self) -> Result<Matrix, u8> {
+        let added = accepted(self.matrix().add_enable(self.enable))?;
+        accepted(added.normalize())
+    }
+
+    pub(crate) fn assumed(self, net: Net, value: Trit) -> Result<Matrix, u8> {
+        accepted(self.matrix().assume(net, value))
+    }
+}
+
+// Whether an answer has this number of 01, which is 0 where nothing is refused.
+pub(crate) fn is_number<T: Drop>(answer: Result<T, u8>, no: usize) -> bool {
+    usize::from(answer.err().unwrap_or(0)) == no
+}
+
+// Whether an answer is this refusal of 01.
+pub(crate) fn is_refusal<T: Drop>(answer: Result<T, u8>, no: usize) -> bool {
+    answer.err().map(usize::from) == Some(no)
+}
+
+// The room that the calls are lent. It is not cleared between them.
+#[derive(Drop)]
+pub(crate) struct Lent {
+    out: [u8; TEXT_ROOM],
+    pub store: [u16; STORE],
+    pub table: [u16; TABLE],
+}
+
+impl Lent {
+    pub(crate) fn new() -> Lent {
+        Lent {
+            out: [0; TEXT_ROOM],
+            store: [0; STORE],
+            table: [0; TABLE],
+        }
+    }
+
+    pub(crate) fn prints(&mut self, made: Result<Matrix, u8>, text: &[u8]) -> bool {
+        let Ok(matrix) = made else {
+            return false;
         };
+        match text::print(matrix, &mut self.out) {
+            Ok(n) => self.out.get(..n) == Some(text),
+            Err(_) => false,
+        }
     }
-    if c.no != 0 {
-        return matrix::Made {
-            no: LINE,
-            matrix: m,
+
+    pub(crate) fn reads(&mut self, text: &[u8]) -> bool {
+        self.prints(read(text), text)
+    }
+
+    // A tree grown in so many entries of those that are there.
+    fn grown(&mut self, given: Given<'_>, entries: usize) -> Result<Built, u8> {
+        let n = tree::inner::NODE_RUN * entries.min(rules::NODES_MAX + 1);
+        dispatch::dispatch(given.matrix(), given.enable, &mut self.store[..n]).map_err(u8::from)
+    }
+
+    pub(crate) fn refused(&mut self, given: Given<'_>, entries: usize, no: usize) -> bool {
+        is_refusal(self.grown(given, entries), no)
+    }
+
+    // One entry fewer than the peak is too few.
+    pub(crate) fn short(&mut self, given: Given<'_>, peak: usize) -> bool {
+        let Some(entries) = peak.checked_sub(1) else {
+            return false;
         };
+        self.refused(given, entries, usize::from(u8::from(Refusal::Nodes)))
     }
-    m.merge(trits::inner::net(at), c.matrix)
-}
 
-pub(crate) fn enabled(given: &[u8], enable: u16) -> matrix::Made {
-    let m = text::read(given).matrix;
-    let r = m.add_enable(trits::inner::net(enable));
-    if r.no != 0 {
-        return r;
+    // The root is the tree's last entry.
+    pub(crate) fn tree(&mut self, given: Given<'_>, entries: usize, size: usize) -> bool {
+        match self.grown(given, entries) {
+            Ok(built) => built.size == size && built.root.0.checked_add(1) == Some(size),
+            Err(_) => false,
+        }
     }
-    r.matrix.normalize()
-}
 
-fn trit(code: u16) -> rules::Trit {
-    match code {
-        0 => rules::Trit::Zero,
-        1 => rules::Trit::One,
-        _ => rules::Trit::Undef,
+    pub(crate) fn check(&self, root: Place, size: usize) -> bool {
+        tree::check(&self.store, root) == Ok(size)
     }
-}
 
-pub(crate) fn assumed(given: &[u8], net: u16, value: u16) -> matrix::Made {
-    let m = text::read(given).matrix;
-    m.assume(trits::inner::net(net), trit(value))
-}
-
-pub(crate) fn outputs(given: &[u8], nets: &[u16]) -> bool {
-    let o = text::read(given).matrix.outputs();
-    if o.no != 0 {
-        return false;
+    pub(crate) fn prefix(&self, root: Place, outputs: &[u16], enables: &[u16], len: usize) -> bool {
+        emit::prefix(&self.store, root, outputs, enables) == Ok(len)
     }
-    let named = o.nets;
-    held::same(held::front(&named, o.count), nets)
-}
 
-// The numbers of so many entries, of those that are there.
-fn lent(entries: usize, len: usize) -> usize
-    ensures { result ≤ len }
-{
-    if rules::NODES_MAX < entries {
-        return len;
+    fn tree_text(&mut self, root: Place) -> Option<&[u8]> {
+        let n = text::print_tree(&self.store, root, &mut self.out).ok()?;
+        self.out.get(..n)
     }
-    let k = tree::inner::NODE_RUN * entries;
-    if len < k {
-        return len;
+
+    pub(crate) fn printed(&mut self, root: Place, text: &[u8]) -> bool {
+        self.tree_text(root) == Some(text)
     }
-    k
-}
 
-fn grown(given: &[u8], enable: u16, entries: usize, store: &mut [u16]) -> tree::Built {
-    let m = text::read(given).matrix;
-    let first = 0;
-    let k = lent(entries, store.len());
-    dispatch::dispatch(m, trits::inner::net(enable), &mut store[first..k])
-}
-
-pub(crate) fn refused(
-    given: &[u8],
-    enable: u16,
-    entries: usize,
-    no: usize,
-    store: &mut [u16],
-) -> bool {
-    let tree::Built::Refused(r) = grown(given, enable, entries, store) else {
-        return false;
-    };
-    parse::wide(r) == no
-}
-
-// One entry fewer than the peak is too few.
-pub(crate) fn short(given: &[u8], enable: u16, peak: usize, store: &mut [u16]) -> bool {
-    if peak == 0 {
-        return false;
+    // A long text stands in the file by its length and check number.
+    pub(crate) fn printed_long(&mut self, root: Place, len: usize, sum: usize) -> bool {
+        match self.tree_text(root) {
+            Some(text) => text.len() == len && held::numbers(0, text) == sum,
+            None => false,
+        }
     }
-    refused(given, enable, peak - 1, parse::wide(NODES), store)
-}
 
-// The root is the tree's last entry.
-pub(crate) fn tree(
-    given: &[u8],
-    enable: u16,
-    entries: usize,
-    size: usize,
-    store: &mut [u16],
-) -> bool {
-    let tree::Built::Done { root, size: made } = grown(given, enable, entries, store) else {
-        return false;
-    };
-    if made != size {
-        return false;
+    pub(crate) fn one_hot(&mut self, root: Place, outputs: &[u16]) -> Ours<'_> {
+        let made = emit::one_hot(&self.store, root, outputs, 0, &mut self.table);
+        Ours {
+            made,
+            table: &self.table,
+        }
     }
-    root.0 == held::root(size).0
-}
-
-pub(crate) fn check(store: &[u16], size: usize) -> bool {
-    let tree::Checked::Tree(n) = tree::check(store, held::root(size)) else {
-        return false;
-    };
-    n == size
-}
-
-pub(crate) fn prefix(
-    store: &[u16],
-    size: usize,
-    outputs: &[u16],
-    enables: &[u16],
-    len: usize,
-) -> bool {
-    let emit::Together::Length(n) = emit::prefix(store, held::root(size), outputs, enables) else {
-        return false;
-    };
-    n == len
-}
-
-pub(crate) fn printed(store: &[u16], size: usize, text: &[u8], out: &mut [u8]) -> bool {
-    let text::Printed::Done(n) = text::print_tree(store, held::root(size), out) else {
-        return false;
-    };
-    check::same(parse::part(out, 0, n), text)
-}
-
-pub(crate) fn printed_long(
-    store: &[u16],
-    size: usize,
-    len: usize,
-    sum: usize,
-    out: &mut [u8],
-) -> bool {
-    let text::Printed::Done(n) = text::print_tree(store, held::root(size), out) else {
-        return false;
-    };
-    n == len && held::bytes(parse::part(out, 0, n)) == sum
 }

@@ -1,397 +1,215 @@
-// A case of the file, line by line: what each line asks of our calls, and where the next line begins.
-use crate::{ask, emission, held, parse, tally, updates};
+// A case of the file, line by line: what each line asks of our calls. The letters are the file's own bytes, as differential/README.md gives them: an enum would spell each of them twice.
+use crate::ask::{self, Given, Lent};
+use crate::parse::{LIST_MAX, Lines};
+use crate::tally::{Kind, Tally};
+use rules::Place;
 
-// The text of a case's matrix, its enable and how many outputs, and where the case goes on.
-#[derive(Clone, Copy)]
-struct Begun {
-    start: usize,
-    end: usize,
-    enable: u16,
-    outputs: usize,
-    at: usize,
+// Where no tree was grown, the first entry is asked about.
+const FIRST: Place = Place(0);
+
+#[derive(Drop)]
+pub(crate) struct Replay {
+    pub lent: Lent,
+    pub tally: Tally,
 }
 
-// Where a case goes on, and the size of its tree, 0 where there is none.
-#[derive(Clone, Copy)]
-struct Grown {
-    at: usize,
-    size: usize,
-}
+impl Replay {
+    // Up to the first line that begins no case, where the lines stay.
+    pub(crate) fn all(&mut self, lines: &mut Lines<'_>) {
+        // A case has bytes, so there are no more cases than bytes.
+        for _ in 0..lines.len() {
+            self.case(lines);
+        }
+    }
 
-// The cases are numbered from 1 on; a word says how each was made.
-fn heading(s: &[u8], at: usize, tally: &mut [u64]) -> usize {
-    tally::begin(tally);
-    let n = parse::number(s, parse::letter(s, at, b'C'));
-    if n.value as u64 != tally::cases(tally) {
-        return parse::LOST;
+    fn case(&mut self, lines: &mut Lines<'_>) {
+        if lines.begins(b'C') {
+            self.heading(lines);
+            if lines.begins(b'J') {
+                self.merge(lines);
+            }
+        }
+        if lines.begins(b'M') {
+            self.matrix(lines);
+        }
     }
-    parse::next_line(s, parse::skip(s, n.at, b' '))
-}
 
-// A merge that is refused ends its case; the result of another is the matrix that follows.
-fn merge(s: &[u8], at: usize, out: &mut [u8], tally: &mut [u64]) -> usize {
-    if parse::byte(s, at) != b'J' {
-        return at;
-    }
-    let net = parse::net(s, parse::letter(s, at, b'J'));
-    let q = parse::text(s, parse::end(s, net.at), b'Q');
-    let k = parse::text(s, q.at, b'K');
-    let parent = parse::part(s, q.start, q.end);
-    let child = parse::part(s, k.start, k.end);
-    let made = ask::merge(parent, child, net.code);
-    if parse::byte(s, k.at) == b'Z' {
-        let z = parse::number(s, parse::letter(s, k.at, b'Z'));
-        let right = parse::wide(made.no) == z.value;
-        tally::mark(tally, tally::MERGE, b'Z', right);
-        return parse::end(s, z.at);
-    }
-    let m = parse::text(s, k.at, b'M');
-    let right = ask::made(made, parse::part(s, m.start, m.end), out);
-    tally::mark(tally, tally::MERGE, b'J', right);
-    k.at
-}
-
-// Where the enable is refused, there is no such line, and the dispatch is refused alike.
-fn enable(
-    s: &[u8],
-    at: usize,
-    given: &[u8],
-    enable: u16,
-    out: &mut [u8],
-    tally: &mut [u64],
-) -> usize {
-    let made = ask::enabled(given, enable);
-    if parse::byte(s, at) == b'N' {
-        let n = parse::text(s, at, b'N');
-        let right = ask::made(made, parse::part(s, n.start, n.end), out);
-        tally::mark(tally, tally::ENABLE, b'N', right);
-        return n.at;
-    }
-    if parse::byte(s, at) == b'n' {
-        let right = ask::made(made, given, out);
-        tally::mark(tally, tally::ENABLE, b'n', right);
-        return parse::end(s, parse::skip(s, at, b'n'));
-    }
-    let r = parse::number(s, parse::letter(s, at, b'R'));
-    let right = made.no != 0 && parse::wide(made.no) == r.value;
-    tally::mark(tally, tally::ENABLE, b'E', right);
-    at
-}
-
-// What is refused is refused in 1,025 entries too. The tree of the last dispatch, into 1,024, is what the lines after it ask about.
-fn dispatch(
-    s: &[u8],
-    at: usize,
-    given: &[u8],
-    enable: u16,
-    store: &mut [u16],
-    tally: &mut [u64],
-) -> Grown {
-    if parse::byte(s, at) == b'R' {
-        let r = parse::number(s, parse::letter(s, at, b'R'));
-        let right = ask::refused(given, enable, rules::NODES_MAX + 1, r.value, store);
-        tally::mark(tally, tally::REFUSED, b'R', right);
-        return Grown {
-            at: parse::end(s, r.at),
-            size: 0,
+    fn matrix(&mut self, lines: &mut Lines<'_>) {
+        let given = self.given(lines);
+        let mut nets = [0u16; LIST_MAX];
+        let outputs = self.outputs(lines, given, &mut nets);
+        self.enable(lines, given);
+        let grown = if lines.begins(b'R') {
+            self.refused(lines, given);
+            None
+        } else {
+            self.grown(lines, given)
         };
+        if let Some(root) = grown {
+            self.print(lines, root);
+            self.one_hot(lines, root, outputs);
+        }
+        let root = grown.unwrap_or(FIRST);
+        if lines.begins(b'A') {
+            self.assume(lines, given);
+        }
+        if lines.begins(b'I') {
+            self.disjoint(lines, root);
+        }
+        if lines.begins(b'L') {
+            self.prefix(lines, root, outputs);
+        }
+        if lines.begins(b'D') {
+            self.damage(lines);
+        }
     }
-    let n = parse::number(s, parse::letter(s, at, b'P'));
-    let peak = parse::more(s, n.at);
-    let short = ask::short(given, enable, peak.value, store);
-    tally::mark(tally, tally::SHORT, b'P', short);
-    let enough = ask::tree(given, enable, peak.value, n.value, store);
-    tally::mark(tally, tally::PEAK, b'P', enough);
-    let right = ask::tree(given, enable, rules::NODES_MAX, n.value, store);
-    tally::mark(tally, tally::TREE, b'P', right);
-    let formed = ask::check(store, n.value);
-    tally::mark(tally, tally::CHECK, b'P', formed);
-    Grown {
-        at: parse::end(s, peak.at),
-        size: n.value,
+
+    // The cases are numbered from 1 on; a word says how each was made.
+    fn heading(&mut self, lines: &mut Lines<'_>) {
+        self.tally.begin();
+        if lines.numbered(b'C') != self.tally.cases() {
+            lines.lose();
+        }
+        lines.skip(b' ');
+        lines.next_line();
     }
-}
 
-// A long text stands in the file by its length and check number.
-fn print(
-    s: &[u8],
-    at: usize,
-    size: usize,
-    store: &[u16],
-    out: &mut [u8],
-    tally: &mut [u64],
-) -> usize {
-    if parse::byte(s, at) == b'T' {
-        let t = parse::text(s, at, b'T');
-        let right = ask::printed(store, size, parse::part(s, t.start, t.end), out);
-        tally::mark(tally, tally::PRINT, b'T', right);
-        return t.at;
+    // A merge that is refused ends its case; the result of another is the matrix that follows.
+    fn merge(&mut self, lines: &mut Lines<'_>) {
+        lines.letter(b'J');
+        let at = lines.net();
+        lines.end();
+        let parent = lines.text(b'Q');
+        let child = lines.text(b'K');
+        let made = ask::merge(parent, child, at);
+        if lines.begins(b'Z') {
+            let no = lines.numbered(b'Z');
+            lines.end();
+            self.tally.mark(Kind::Merge, b'Z', ask::is_number(made, no));
+            return;
+        }
+        let mut ahead = *lines;
+        let right = self.lent.prints(made, ahead.text(b'M'));
+        self.tally.mark(Kind::Merge, b'J', right);
     }
-    let n = parse::number(s, parse::letter(s, at, b't'));
-    let c = parse::more(s, n.at);
-    let right = ask::printed_long(store, size, n.value, c.value, out);
-    tally::mark(tally, tally::PRINT, b't', right);
-    parse::end(s, c.at)
-}
 
-fn one_hot(
-    s: &[u8],
-    at: usize,
-    size: usize,
-    outputs: &[u16],
-    store: &[u16],
-    table: &mut [u16],
-    list: &mut [u16],
-    tally: &mut [u64],
-) -> usize {
-    let e = emit::one_hot(store, held::root(size), outputs, 0, table);
-    let h = emission::held(s, at, b'W', e, table, list);
-    tally::mark(tally, tally::ONE_HOT, b'H', h.right);
-    h.at
-}
-
-fn assume(s: &[u8], at: usize, given: &[u8], out: &mut [u8], tally: &mut [u64]) -> usize {
-    if parse::byte(s, at) != b'A' {
-        return at;
+    fn given<'a>(&mut self, lines: &mut Lines<'a>) -> Given<'a> {
+        let text = lines.text(b'M');
+        let right = self.lent.reads(text);
+        self.tally.mark(Kind::Text, b'M', right);
+        lines.letter(b'E');
+        let enable = lines.net();
+        lines.end();
+        Given { text, enable }
     }
-    let net = parse::net(s, parse::letter(s, at, b'A'));
-    let trit = parse::net(s, parse::skip(s, net.at, b' '));
-    let b = parse::text(s, parse::end(s, trit.at), b'B');
-    let made = ask::assumed(given, net.code, trit.code);
-    let right = ask::made(made, parse::part(s, b.start, b.end), out);
-    tally::mark(tally, tally::ASSUME, b'A', right);
-    b.at
-}
 
-fn disjoint(
-    s: &[u8],
-    at: usize,
-    size: usize,
-    store: &[u16],
-    table: &mut [u16],
-    list: &mut [u16],
-    tally: &mut [u64],
-) -> usize {
-    if parse::byte(s, at) != b'I' {
-        return at;
+    fn outputs<'a>(
+        &mut self,
+        lines: &mut Lines<'_>,
+        given: Given<'_>,
+        nets: &'a mut [u16],
+    ) -> &'a [u16] {
+        let count = lines.numbered(b'O');
+        let outputs = lines.list(nets, count);
+        lines.end();
+        let right = given.outputs(outputs);
+        self.tally.mark(Kind::Outputs, b'O', right);
+        outputs
     }
-    let u = updates::ask(s, at, held::root(size), store, table);
-    let h = emission::held(s, u.at, b'X', u.made, table, list);
-    tally::mark(tally, tally::DISJOINT, b'I', h.right);
-    h.at
-}
 
-fn prefix(
-    s: &[u8],
-    at: usize,
-    size: usize,
-    outputs: &[u16],
-    store: &[u16],
-    list: &mut [u16],
-    tally: &mut [u64],
-) -> usize {
-    if parse::byte(s, at) != b'L' {
-        return at;
+    // Where the enable is refused, there is no such line, and the dispatch is refused alike.
+    fn enable(&mut self, lines: &mut Lines<'_>, given: Given<'_>) {
+        let made = given.enabled();
+        if lines.begins(b'N') {
+            let right = self.lent.prints(made, lines.text(b'N'));
+            self.tally.mark(Kind::Enable, b'N', right);
+        } else if lines.begins(b'n') {
+            lines.skip(b'n');
+            lines.end();
+            let right = self.lent.prints(made, given.text);
+            self.tally.mark(Kind::Enable, b'n', right);
+        } else {
+            let mut ahead = *lines;
+            let right = ask::is_refusal(made, ahead.numbered(b'R'));
+            self.tally.mark(Kind::Enable, b'E', right);
+        }
     }
-    let n = parse::number(s, parse::letter(s, at, b'L'));
-    let k = parse::more(s, n.at);
-    let p = parse::list(s, k.at, 0, k.value, list);
-    let right = ask::prefix(store, size, outputs, held::front(list, k.value), n.value);
-    tally::mark(tally, tally::PREFIX, b'L', right);
-    parse::end(s, p)
-}
 
-fn damage(s: &[u8], at: usize, tally: &mut [u64]) -> usize {
-    if parse::byte(s, at) != b'D' {
-        return at;
+    // What is refused is refused in 1,025 entries too.
+    fn refused(&mut self, lines: &mut Lines<'_>, given: Given<'_>) {
+        let no = lines.numbered(b'R');
+        lines.end();
+        let right = self.lent.refused(given, rules::NODES_MAX + 1, no);
+        self.tally.mark(Kind::Refused, b'R', right);
     }
-    let n = parse::number(s, parse::letter(s, at, b'D'));
-    let line = parse::more(s, n.at);
-    let d = parse::body(s, parse::end(s, line.at), n.value);
-    let right = ask::damaged(parse::part(s, d.start, d.end), line.value);
-    tally::mark(tally, tally::DAMAGED, b'D', right);
-    d.at
-}
 
-// A refused dispatch has no tree to ask about.
-fn tree(
-    s: &[u8],
-    g: Grown,
-    outputs: &[u16],
-    out: &mut [u8],
-    store: &[u16],
-    table: &mut [u16],
-    list: &mut [u16],
-    tally: &mut [u64],
-) -> usize {
-    if g.size == 0 {
-        return g.at;
+    // The root of the tree is its last entry. The tree of the last dispatch, into 1,024 entries, is what the lines after it ask about.
+    fn grown(&mut self, lines: &mut Lines<'_>, given: Given<'_>) -> Option<Place> {
+        let size = lines.numbered(b'P');
+        let peak = lines.more();
+        lines.end();
+        let root = size.checked_sub(1).map(Place);
+        let short = self.lent.short(given, peak);
+        self.tally.mark(Kind::Short, b'P', short);
+        let enough = self.lent.tree(given, peak, size);
+        self.tally.mark(Kind::Peak, b'P', enough);
+        let right = self.lent.tree(given, rules::NODES_MAX, size);
+        self.tally.mark(Kind::Tree, b'P', right);
+        let formed = self.lent.check(root.unwrap_or(FIRST), size);
+        self.tally.mark(Kind::Check, b'P', formed);
+        root
     }
-    let p = print(s, g.at, g.size, store, out, tally);
-    one_hot(s, p, g.size, outputs, store, table, list, tally)
-}
 
-// How many outputs are listed, and where the case goes on.
-fn outputs(s: &[u8], at: usize, given: &[u8], nets: &mut [u16], tally: &mut [u64]) -> parse::Num {
-    let k = parse::number(s, parse::letter(s, at, b'O'));
-    let p = parse::list(s, k.at, 0, k.value, nets);
-    let right = ask::outputs(given, held::front(nets, k.value));
-    tally::mark(tally, tally::OUTPUTS, b'O', right);
-    parse::Num {
-        value: k.value,
-        at: parse::end(s, p),
+    // A long text stands in the file by its length and check number.
+    fn print(&mut self, lines: &mut Lines<'_>, root: Place) {
+        if lines.begins(b'T') {
+            let right = self.lent.printed(root, lines.text(b'T'));
+            self.tally.mark(Kind::Print, b'T', right);
+            return;
+        }
+        let len = lines.numbered(b't');
+        let sum = lines.more();
+        lines.end();
+        let right = self.lent.printed_long(root, len, sum);
+        self.tally.mark(Kind::Print, b't', right);
     }
-}
 
-fn given(s: &[u8], at: usize, out: &mut [u8], nets: &mut [u16], tally: &mut [u64]) -> Begun {
-    let m = parse::text(s, at, b'M');
-    let text = parse::part(s, m.start, m.end);
-    let right = ask::text(text, out);
-    tally::mark(tally, tally::TEXT, b'M', right);
-    let e = parse::net(s, parse::letter(s, m.at, b'E'));
-    let k = outputs(s, parse::end(s, e.at), text, nets, tally);
-    Begun {
-        start: m.start,
-        end: m.end,
-        enable: e.code,
-        outputs: k.value,
-        at: k.at,
+    fn one_hot(&mut self, lines: &mut Lines<'_>, root: Place, outputs: &[u16]) {
+        let right = self.lent.one_hot(root, outputs).held(lines, b'W');
+        self.tally.mark(Kind::OneHot, b'H', right);
     }
-}
 
-fn grow(
-    s: &[u8],
-    m: Begun,
-    text: &[u8],
-    out: &mut [u8],
-    store: &mut [u16],
-    tally: &mut [u64],
-) -> Grown {
-    let p = enable(s, m.at, text, m.enable, out, tally);
-    dispatch(s, p, text, m.enable, store, tally)
-}
-
-// The lines that some cases have: of the tree, and a damaged text.
-fn last(
-    s: &[u8],
-    at: usize,
-    size: usize,
-    outputs: &[u16],
-    store: &[u16],
-    table: &mut [u16],
-    list: &mut [u16],
-    tally: &mut [u64],
-) -> usize {
-    let p = disjoint(s, at, size, store, table, list, tally);
-    let q = prefix(s, p, size, outputs, store, list, tally);
-    damage(s, q, tally)
-}
-
-// The same, and an assumption before them.
-fn some(
-    s: &[u8],
-    at: usize,
-    size: usize,
-    text: &[u8],
-    outputs: &[u16],
-    out: &mut [u8],
-    store: &[u16],
-    table: &mut [u16],
-    list: &mut [u16],
-    tally: &mut [u64],
-) -> usize {
-    let p = assume(s, at, text, out, tally);
-    last(s, p, size, outputs, store, table, list, tally)
-}
-
-// All that follows the dispatch.
-fn rest(
-    s: &[u8],
-    g: Grown,
-    text: &[u8],
-    outputs: &[u16],
-    out: &mut [u8],
-    store: &[u16],
-    table: &mut [u16],
-    list: &mut [u16],
-    tally: &mut [u64],
-) -> usize {
-    let p = tree(s, g, outputs, out, store, table, list, tally);
-    some(s, p, g.size, text, outputs, out, store, table, list, tally)
-}
-
-// All that follows the outputs.
-fn answers(
-    s: &[u8],
-    m: Begun,
-    outputs: &[u16],
-    out: &mut [u8],
-    store: &mut [u16],
-    table: &mut [u16],
-    list: &mut [u16],
-    tally: &mut [u64],
-) -> usize {
-    let text = parse::part(s, m.start, m.end);
-    let g = grow(s, m, text, out, store, tally);
-    rest(s, g, text, outputs, out, store, table, list, tally)
-}
-
-fn matrix(
-    s: &[u8],
-    at: usize,
-    out: &mut [u8],
-    store: &mut [u16],
-    table: &mut [u16],
-    nets: &mut [u16],
-    list: &mut [u16],
-    tally: &mut [u64],
-) -> usize {
-    let m = given(s, at, out, nets, tally);
-    let named = held::front(nets, m.outputs);
-    answers(s, m, named, out, store, table, list, tally)
-}
-
-fn begin(s: &[u8], at: usize, out: &mut [u8], tally: &mut [u64]) -> usize {
-    if parse::byte(s, at) != b'C' {
-        return at;
+    fn assume(&mut self, lines: &mut Lines<'_>, given: Given<'_>) {
+        lines.letter(b'A');
+        let net = lines.net();
+        lines.skip(b' ');
+        let trit = lines.trit();
+        lines.end();
+        let text = lines.text(b'B');
+        let right = self.lent.prints(given.assumed(net, trit), text);
+        self.tally.mark(Kind::Assume, b'A', right);
     }
-    let p = heading(s, at, tally);
-    merge(s, p, out, tally)
-}
 
-fn case(
-    s: &[u8],
-    at: usize,
-    out: &mut [u8],
-    store: &mut [u16],
-    table: &mut [u16],
-    nets: &mut [u16],
-    list: &mut [u16],
-    tally: &mut [u64],
-) -> usize {
-    let p = begin(s, at, out, tally);
-    if parse::byte(s, p) != b'M' {
-        return p;
+    fn disjoint(&mut self, lines: &mut Lines<'_>, root: Place) {
+        let right = self.lent.disjoint(lines, root).held(lines, b'X');
+        self.tally.mark(Kind::Disjoint, b'I', right);
     }
-    matrix(s, p, out, store, table, nets, list, tally)
-}
 
-// Up to the first line that begins no case, where the position stays.
-pub(crate) fn all(
-    s: &[u8],
-    at: usize,
-    out: &mut [u8],
-    store: &mut [u16],
-    table: &mut [u16],
-    nets: &mut [u16],
-    list: &mut [u16],
-    tally: &mut [u64],
-) -> usize {
-    let mut p = at;
-    let mut turns = s.len();
-    while turns > 0 {
-        p = case(s, p, out, store, table, nets, list, tally);
-        turns -= 1;
+    fn prefix(&mut self, lines: &mut Lines<'_>, root: Place, outputs: &[u16]) {
+        let len = lines.numbered(b'L');
+        let count = lines.more();
+        let mut nets = [0u16; LIST_MAX];
+        let enables = lines.list(&mut nets, count);
+        lines.end();
+        let right = self.lent.prefix(root, outputs, enables, len);
+        self.tally.mark(Kind::Prefix, b'L', right);
     }
-    p
+
+    fn damage(&mut self, lines: &mut Lines<'_>) {
+        let len = lines.numbered(b'D');
+        let line = lines.more();
+        lines.end();
+        let right = ask::damaged(lines.body(len), line);
+        self.tally.mark(Kind::Damaged, b'D', right);
+    }
 }

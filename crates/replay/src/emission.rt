@@ -1,111 +1,85 @@
 // An emission of the file, held against the entries and the value of ours.
-use crate::{held, parse};
+use crate::held;
+use crate::parse::{LIST_MAX, Lines};
+use emit::Emitted;
 use evaluate::inner::MUX_RUN;
 
-// Where the emission ends, and whether ours is the same.
+// An emission of more muxes is none that the file lists.
+const LISTED_MAX: usize = LIST_MAX / MUX_RUN;
+
 #[derive(Clone, Copy)]
-pub(crate) struct Seen {
-    pub at: usize,
-    pub right: bool,
+pub(crate) struct Ours<'a> {
+    pub made: Emitted,
+    pub table: &'a [u16],
 }
 
-// The numbers of so many entries; more than there may be have none.
-fn run(entries: usize) -> usize {
-    if rules::MUX_MAX < entries {
-        return 0;
+impl<'a> Ours<'a> {
+    fn counts(&self, muxes: usize, width: usize) -> bool {
+        self.made.no == 0 && self.made.used == muxes && self.made.width == width
     }
-    MUX_RUN * entries
-}
 
-fn mux(s: &[u8], at: usize, from: usize, list: &mut [u16]) -> usize {
-    if list.len() < from {
-        return parse::LOST;
+    fn value(&self) -> &[u16] {
+        self.made.nets.get(..self.made.width).unwrap_or(&[])
     }
-    let p = parse::skip(s, at, b'U');
-    parse::end(s, parse::list(s, p, from, from + MUX_RUN, list))
-}
 
-// A line for each mux, its three nets one after the other in the list.
-fn muxes(s: &[u8], at: usize, count: usize, list: &mut [u16]) -> usize {
-    let mut p = at;
-    let mut i = 0;
-    while i < count {
-        p = mux(s, p, run(i), list);
-        i += 1;
+    fn muxes(&self) -> &'a [[u16; MUX_RUN]] {
+        let (muxes, _) = self.table.as_chunks::<MUX_RUN>();
+        muxes.get(..self.made.used).unwrap_or(&[])
     }
-    p
-}
 
-fn counts(e: emit::Emitted, muxes: usize, width: usize) -> bool {
-    if e.no != 0 {
-        return false;
+    // The check number of our entries, then of our value.
+    fn check(&self) -> usize {
+        held::numbers(held::numbers(0, self.muxes().as_flattened()), self.value())
     }
-    if e.used != muxes {
-        return false;
-    }
-    e.width == width
-}
 
-fn value(e: emit::Emitted, nets: &[u16]) -> bool {
-    let ours = e.nets;
-    held::same(held::front(&ours, e.width), nets)
-}
-
-// The check number of our entries, then of our value.
-fn check(e: emit::Emitted, table: &[u16]) -> usize {
-    let sum = held::numbers(0, held::front(table, run(e.used)));
-    let ours = e.nets;
-    held::numbers(sum, held::front(&ours, e.width))
-}
-
-fn summed(s: &[u8], at: usize, e: emit::Emitted, table: &[u16]) -> Seen {
-    let m = parse::number(s, parse::letter(s, at, b'h'));
-    let w = parse::more(s, m.at);
-    let c = parse::more(s, w.at);
-    let sum = check(e, table);
-    Seen {
-        at: parse::end(s, c.at),
-        right: counts(e, m.value, w.value) && sum == c.value,
+    fn summed(&self, lines: &mut Lines<'_>) -> bool {
+        let muxes = lines.numbered(b'h');
+        let width = lines.more();
+        let sum = lines.more();
+        lines.end();
+        self.counts(muxes, width) && self.check() == sum
     }
-}
 
-fn listed(s: &[u8], at: usize, e: emit::Emitted, table: &[u16], list: &mut [u16]) -> Seen {
-    let m = parse::number(s, parse::letter(s, at, b'H'));
-    let w = parse::more(s, m.at);
-    let p = muxes(s, parse::end(s, w.at), m.value, list);
-    let n = run(m.value);
-    let entries = held::same(held::front(table, n), held::front(list, n));
-    let q = parse::list(s, parse::skip(s, p, b'V'), 0, w.value, list);
-    let nets = value(e, held::front(list, w.value));
-    Seen {
-        at: parse::end(s, q),
-        right: counts(e, m.value, w.value) && entries && nets,
+    // A line for each mux.
+    fn listed(&self, lines: &mut Lines<'_>) -> bool {
+        let muxes = lines.numbered(b'H');
+        let width = lines.more();
+        lines.end();
+        if muxes > LISTED_MAX {
+            lines.lose();
+            return false;
+        }
+        let mut right = self.counts(muxes, width);
+        let (entries, _) = self.table.as_chunks::<MUX_RUN>();
+        for ours in entries.iter().take(muxes) {
+            let mut room = [0u16; MUX_RUN];
+            lines.skip(b'U');
+            let theirs = lines.list(&mut room, MUX_RUN);
+            lines.end();
+            right = right && ours.as_slice() == theirs;
+        }
+        let mut nets = [0u16; LIST_MAX];
+        lines.skip(b'V');
+        let value = lines.list(&mut nets, width);
+        lines.end();
+        right && self.value() == value
     }
-}
 
-// A refusal of ours, at the line that has its letter.
-fn refused(s: &[u8], at: usize, letter: u8, e: emit::Emitted) -> Seen {
-    let n = parse::number(s, parse::letter(s, at, letter));
-    Seen {
-        at: parse::end(s, n.at),
-        right: e.no != 0 && parse::wide(e.no) == n.value,
+    // A refusal of ours, at the line that has its letter.
+    fn refused(&self, lines: &mut Lines<'_>, letter: u8) -> bool {
+        let no = lines.numbered(letter);
+        lines.end();
+        self.made.no != 0 && usize::from(self.made.no) == no
     }
-}
 
-// A long emission stands in the file by its check number alone, a refused one by a letter and a number.
-pub(crate) fn held(
-    s: &[u8],
-    at: usize,
-    refusal: u8,
-    e: emit::Emitted,
-    table: &[u16],
-    list: &mut [u16],
-) -> Seen {
-    if parse::byte(s, at) == refusal {
-        return refused(s, at, refusal, e);
+    // A long emission stands in the file by its check number alone, a refused one by a letter and a number.
+    pub(crate) fn held(&self, lines: &mut Lines<'_>, refusal: u8) -> bool {
+        if lines.begins(refusal) {
+            self.refused(lines, refusal)
+        } else if lines.begins(b'h') {
+            self.summed(lines)
+        } else {
+            self.listed(lines)
+        }
     }
-    if parse::byte(s, at) == b'h' {
-        return summed(s, at, e, table);
-    }
-    listed(s, at, e, table, list)
 }

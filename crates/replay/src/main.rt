@@ -12,46 +12,32 @@ mod parse;
 mod tally;
 mod updates;
 
+use ask::Lent;
+use cases::Replay;
+use parse::Lines;
 use std::io;
 use std::io::Read;
+use tally::Tally;
 
 // Room for the file; one that fills it may go on.
 const FILE_MAX: usize = 425984;
 
-// Room for the longest text of a matrix or of a tree.
-const TEXT_ROOM: usize = 65536;
-
-// Room for the longest list of nets.
-const LIST_MAX: usize = rules::ROWS_MAX * rules::RULES_MAX;
-
-// One entry more than may be used.
-const STORE: usize = tree::inner::NODE_RUN * (rules::NODES_MAX + 1);
-
 fn main(rt: HostRuntime) -> io::Result<()> {
     let mut file = [0u8; FILE_MAX];
-    let mut out = [0u8; TEXT_ROOM];
-    let mut store = [0u16; STORE];
-    let mut table = [0u16; evaluate::inner::MUX_RUN * rules::MUX_MAX];
-    let mut outputs = [0u16; LIST_MAX];
-    let mut list = [0u16; LIST_MAX];
-    let mut tally = [0u64; tally::SLOTS];
+    let mut replay = Replay {
+        lent: Lent::new(),
+        tally: Tally::new(),
+    };
     let n = load(&mut rt.reader(), &mut file)?;
-    let s = &file[..n];
-    let at = cases::all(
-        s,
-        parse::comments(s),
-        &mut out,
-        &mut store,
-        &mut table,
-        &mut outputs,
-        &mut list,
-        &mut tally,
-    );
-    whole(s, at, &mut tally);
-    tally::write(&rt, &tally)
+    let mut lines = Lines::new(&file[..n]);
+    replay.all(&mut lines);
+    if n == FILE_MAX || !whole(&mut lines, replay.tally.cases()) {
+        replay.tally.differ(b'S');
+    }
+    replay.tally.write(&rt)
 }
 
-// Up to where the bytes lent are full or the input ends.
+// Up to where the bytes lent are full or the input ends. A read says how far the place moves on, so no iterator gives it.
 fn load(input: &mut impl Read, bytes: &mut [u8]) -> io::Result<usize>
     ensures { IfOk result (λ n. n ≤ length bytes.new) }
 {
@@ -67,18 +53,8 @@ fn load(input: &mut impl Read, bytes: &mut [u8]) -> io::Result<usize>
 }
 
 // After the last case stands how many there are, and nothing more.
-fn whole(s: &[u8], at: usize, tally: &mut [u64]) {
-    let n = parse::number(s, parse::letter(s, at, b'S'));
-    let e = parse::end(s, n.at);
-    if e != s.len() {
-        tally::differ(tally, b'S');
-        return;
-    }
-    if FILE_MAX <= e {
-        tally::differ(tally, b'S');
-        return;
-    }
-    if n.value as u64 != tally::cases(tally) {
-        tally::differ(tally, b'S');
-    }
+fn whole(lines: &mut Lines<'_>, cases: usize) -> bool {
+    let named = lines.numbered(b'S');
+    lines.end();
+    lines.is_done() && named == cases
 }

@@ -1,232 +1,201 @@
-// The lines of answers.txt, read by position. Where something else stands, the position is lost, and stays so.
-pub(crate) const LOST: usize = usize::MAX;
+// The lines of answers.txt that are still to be read. Where something else stands they are lost, and stay so: a number or a net read of them is 0, a text is empty.
+ghost use Rattle.std.specs.Prelude.{◌<◌, IfSome, length};
+
+use rules::{Net, Trit};
 
 const LF: u8 = b'\n';
 
-const BASE: usize = 10;
+// Room for the longest list of nets.
+pub(crate) const LIST_MAX: usize = rules::ROWS_MAX * rules::RULES_MAX;
 
 // A longer number is none of the file's: it is not read further.
 const NUMBER_MAX: usize = 999999;
 
-// The net that the last mux drives, and the code of cell 0.
-const CELL_LAST: usize = rules::CELL_MAX as usize + rules::MUX_MAX;
+// The net that the last mux drives, counted from cell 0 on.
+const CELL_LAST: usize = (rules::LAST_NET - rules::FIRST_CELL) as usize;
 
-const FIRST_CELL: u16 = 3;
-
+// No rest where they are lost.
 #[derive(Clone, Copy)]
-pub(crate) struct Num {
-    pub value: usize,
-    pub at: usize,
+pub(crate) struct Lines<'a> {
+    rest: Option<&'a [u8]>,
 }
 
-#[derive(Clone, Copy)]
-pub(crate) struct Code {
-    pub code: u16,
-    pub at: usize,
-}
-
-// The bytes of a text, and the position after its last LF.
-#[derive(Clone, Copy)]
-pub(crate) struct Span {
-    pub start: usize,
-    pub end: usize,
-    pub at: usize,
-}
-
-// 0 past the end, which no line has.
-pub(crate) fn byte(s: &[u8], at: usize) -> u8 {
-    if at < s.len() {
-        return s[at];
+impl<'a> Lines<'a> {
+    // Comments stand at the top only.
+    pub(crate) fn new(file: &'a [u8]) -> Lines<'a> {
+        let mut rest = file;
+        while let [b'#', ..] = rest {
+            let Some(after) = after_line(rest) else {
+                return Lines { rest: None };
+            };
+            rest = after;
+        }
+        Lines { rest: Some(rest) }
     }
-    0
-}
 
-pub(crate) fn part(s: &[u8], start: usize, end: usize) -> &[u8] {
-    if start <= end {
-        if end <= s.len() {
-            return &s[start..end];
+    pub(crate) fn lose(&mut self) {
+        self.rest = None;
+    }
+
+    pub(crate) fn len(&self) -> usize {
+        self.rest.map_or(0, |rest| rest.len())
+    }
+
+    // All was read, and nothing lost.
+    pub(crate) fn is_done(&self) -> bool {
+        self.rest.is_some_and(|rest| rest.is_empty())
+    }
+
+    pub(crate) fn begins(&self, letter: u8) -> bool {
+        self.rest.is_some_and(|rest| rest.starts_with(&[letter]))
+    }
+
+    pub(crate) fn skip(&mut self, b: u8) {
+        self.rest = self.rest.and_then(|rest| rest.strip_prefix(&[b]));
+    }
+
+    // The letter of a line with a part after it.
+    pub(crate) fn letter(&mut self, letter: u8) {
+        self.skip(letter);
+        self.skip(b' ');
+    }
+
+    pub(crate) fn end(&mut self) {
+        self.skip(LF);
+    }
+
+    // Past the next LF, whatever stands before it.
+    pub(crate) fn next_line(&mut self) {
+        self.rest = self.rest.and_then(after_line);
+    }
+
+    // A zero stands alone. Another number at the end of the file is read, and what should follow it is lost.
+    pub(crate) fn number(&mut self) -> usize {
+        if self.begins(b'0') {
+            self.skip(b'0');
+            return 0;
+        }
+        let digits = self.digits();
+        digits.iter().fold(0, |value, b| with_digit(value, *b))
+    }
+
+    // Up to what is no digit, where a digit stands.
+    fn digits(&mut self) -> &'a [u8] {
+        let rest = self.rest.unwrap_or(&[]);
+        let Some(n) = rest.iter().position(|b| !b.is_ascii_digit()) else {
+            self.lose();
+            return rest;
+        };
+        let (digits, after) = rest.split_at(n);
+        self.rest = (n > 0).then_some(after);
+        digits
+    }
+
+    // The number after a line's letter.
+    pub(crate) fn numbered(&mut self, letter: u8) -> usize {
+        self.letter(letter);
+        self.number()
+    }
+
+    // The next number of a line.
+    pub(crate) fn more(&mut self) -> usize {
+        self.skip(b' ');
+        self.number()
+    }
+
+    fn next(&mut self) -> Option<u8> {
+        let (first, rest) = self.rest?.split_first()?;
+        self.rest = Some(rest);
+        Some(*first)
+    }
+
+    // A net as the number that stands for it in lists.
+    pub(crate) fn code(&mut self) -> u16 {
+        match self.next() {
+            Some(b'0') => 0,
+            Some(b'1') => 1,
+            Some(b'X') => 2,
+            Some(b'%') => self.cell(),
+            _ => {
+                self.lose();
+                0
+            }
         }
     }
-    &s[..0]
-}
 
-pub(crate) fn skip(s: &[u8], at: usize, b: u8) -> usize {
-    if at < s.len() {
-        if s[at] == b {
-            return at + 1;
+    fn cell(&mut self) -> u16 {
+        let cell = self.number();
+        if cell > CELL_LAST {
+            self.lose();
+            return 0;
+        }
+        rules::FIRST_CELL + cell as u16
+    }
+
+    pub(crate) fn net(&mut self) -> Net {
+        Net::from(self.code())
+    }
+
+    // A cell stands for no trit, and is read as X.
+    pub(crate) fn trit(&mut self) -> Trit {
+        match self.net() {
+            Net::Const(trit) => trit,
+            Net::Cell(_) => Trit::Undef,
         }
     }
-    LOST
-}
 
-// The letter of a line with a part after it.
-pub(crate) fn letter(s: &[u8], at: usize, b: u8) -> usize {
-    skip(s, skip(s, at, b), b' ')
-}
-
-pub(crate) fn end(s: &[u8], at: usize) -> usize {
-    skip(s, at, LF)
-}
-
-// Past the next LF, whatever stands before it.
-pub(crate) fn next_line(s: &[u8], at: usize) -> usize {
-    let mut i = at;
-    while i < s.len() {
-        if s[i] == LF {
-            return i + 1;
+    // A list goes on in the next line after a plus.
+    fn between(&mut self) {
+        if self.begins(LF) {
+            self.end();
+            self.letter(b'+');
+        } else {
+            self.skip(b' ');
         }
-        i += 1;
     }
-    LOST
-}
 
-// Comments stand at the top only.
-pub(crate) fn comments(s: &[u8]) -> usize {
-    let mut p = 0;
-    let mut turns = s.len();
-    while turns > 0 {
-        if byte(s, p) != b'#' {
-            return p;
+    // So many nets, in the room that is lent; a longer list is lost.
+    pub(crate) fn list<'b>(&mut self, room: &'b mut [u16], count: usize) -> &'b [u16] {
+        let Some(codes) = room.get_mut(..count) else {
+            self.lose();
+            return &[];
+        };
+        for code in codes.iter_mut() {
+            self.between();
+            *code = self.code();
         }
-        p = next_line(s, p);
-        turns -= 1;
+        codes
     }
-    p
-}
 
-fn is_digit(b: u8) -> bool {
-    if b < b'0' {
-        return false;
+    // A text whose length is known.
+    pub(crate) fn body(&mut self, len: usize) -> &'a [u8] {
+        let Some((text, rest)) = self.rest.and_then(|rest| rest.split_at_checked(len)) else {
+            self.lose();
+            return &[];
+        };
+        self.rest = Some(rest);
+        self.end();
+        text
     }
-    b <= b'9'
+
+    pub(crate) fn text(&mut self, letter: u8) -> &'a [u8] {
+        let len = self.numbered(letter);
+        self.end();
+        self.body(len)
+    }
 }
 
 fn with_digit(value: usize, b: u8) -> usize {
-    if NUMBER_MAX < value {
+    if value > NUMBER_MAX {
         return value;
     }
-    if b < b'0' {
-        return value;
-    }
-    value * BASE + wide(b - b'0') % BASE
+    value * 10 + usize::from(b.saturating_sub(b'0') % 10)
 }
 
-pub(crate) fn wide(b: u8) -> usize {
-    b as usize
-}
-
-// A zero stands alone.
-pub(crate) fn number(s: &[u8], at: usize) -> Num {
-    if byte(s, at) == b'0' {
-        return Num {
-            value: 0,
-            at: skip(s, at, b'0'),
-        };
-    }
-    if !is_digit(byte(s, at)) {
-        return Num { value: 0, at: LOST };
-    }
-    digits(s, at)
-}
-
-fn digits(s: &[u8], at: usize) -> Num {
-    let mut value = 0;
-    let mut i = at;
-    while i < s.len() {
-        let b = s[i];
-        if !is_digit(b) {
-            return Num { value, at: i };
-        }
-        value = with_digit(value, b);
-        i += 1;
-    }
-    Num { value, at: LOST }
-}
-
-// The next number of a line.
-pub(crate) fn more(s: &[u8], at: usize) -> Num {
-    number(s, skip(s, at, b' '))
-}
-
-fn cell(n: Num) -> Code {
-    let k = n.value;
-    if CELL_LAST < k {
-        return Code { code: 0, at: LOST };
-    }
-    Code {
-        code: FIRST_CELL + k as u16,
-        at: n.at,
-    }
-}
-
-pub(crate) fn net(s: &[u8], at: usize) -> Code {
-    match byte(s, at) {
-        b'0' => Code {
-            code: 0,
-            at: skip(s, at, b'0'),
-        },
-        b'1' => Code {
-            code: 1,
-            at: skip(s, at, b'1'),
-        },
-        b'X' => Code {
-            code: 2,
-            at: skip(s, at, b'X'),
-        },
-        b'%' => cell(number(s, skip(s, at, b'%'))),
-        _ => Code { code: 0, at: LOST },
-    }
-}
-
-// A list goes on in the next line after a plus.
-fn between(s: &[u8], at: usize) -> usize {
-    if byte(s, at) == LF {
-        return letter(s, end(s, at), b'+');
-    }
-    skip(s, at, b' ')
-}
-
-pub(crate) fn put(out: &mut [u16], i: usize, code: u16) {
-    if i < out.len() {
-        out[i] = code;
-    }
-}
-
-// Nets up to a place of the list that is lent; a longer list is lost.
-pub(crate) fn list(s: &[u8], at: usize, from: usize, to: usize, out: &mut [u16]) -> usize {
-    if out.len() < to {
-        return LOST;
-    }
-    let mut p = at;
-    let mut i = from;
-    while i < to {
-        let n = net(s, between(s, p));
-        put(out, i, n.code);
-        p = n.at;
-        i += 1;
-    }
-    p
-}
-
-// A text whose first byte and length are known.
-pub(crate) fn body(s: &[u8], start: usize, len: usize) -> Span {
-    if start <= s.len() {
-        if len <= s.len() - start {
-            return Span {
-                start,
-                end: start + len,
-                at: end(s, start + len),
-            };
-        }
-    }
-    Span {
-        start: 0,
-        end: 0,
-        at: LOST,
-    }
-}
-
-pub(crate) fn text(s: &[u8], at: usize, b: u8) -> Span {
-    let n = number(s, letter(s, at, b));
-    body(s, end(s, n.at), n.value)
+// What follows the next LF.
+fn after_line(text: &[u8]) -> Option<&[u8]>
+    ensures { IfSome result (λ after. length after.now < length text.now) }
+{
+    let end = text.iter().position(|b| *b == LF)?;
+    Some(&text[end + 1..])
 }

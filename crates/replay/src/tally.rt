@@ -1,144 +1,143 @@
 // How many questions of each kind were asked and how many answers differed; the first differences are noted, and written out before the counts.
-use std::io;
+use std::{fmt, io};
 
-pub(crate) const KINDS: usize = 15;
+#[derive(Clone, Copy)]
+pub(crate) enum Kind {
+    Text,
+    Merge,
+    Enable,
+    Outputs,
+    Refused,
+    Tree,
+    Peak,
+    Short,
+    Check,
+    Print,
+    OneHot,
+    Assume,
+    Disjoint,
+    Prefix,
+    Damaged,
+}
 
-pub(crate) const TEXT: usize = 0;
+// The kinds in their order, in which they are written out.
+const KINDS: [Kind; 15] = [
+    Kind::Text,
+    Kind::Merge,
+    Kind::Enable,
+    Kind::Outputs,
+    Kind::Refused,
+    Kind::Tree,
+    Kind::Peak,
+    Kind::Short,
+    Kind::Check,
+    Kind::Print,
+    Kind::OneHot,
+    Kind::Assume,
+    Kind::Disjoint,
+    Kind::Prefix,
+    Kind::Damaged,
+];
 
-pub(crate) const MERGE: usize = 1;
+impl fmt::Display for Kind {
+    fn fmt<W: fmt::Write>(&self, f: &mut fmt::Formatter<W>) -> fmt::Result {
+        f.write_str(match *self {
+            Kind::Text => "M text read and printed back",
+            Kind::Merge => "J merge",
+            Kind::Enable => "E enable added, then normalized",
+            Kind::Outputs => "O outputs",
+            Kind::Refused => "R dispatch refused",
+            Kind::Tree => "P dispatch into 1,024 entries",
+            Kind::Peak => "P dispatch into as many as the peak",
+            Kind::Short => "P dispatch into one fewer, refused",
+            Kind::Check => "P check of the tree",
+            Kind::Print => "T tree printed",
+            Kind::OneHot => "H one-hot emission",
+            Kind::Assume => "A assume",
+            Kind::Disjoint => "I disjoint emission",
+            Kind::Prefix => "L disjoint prefix",
+            Kind::Damaged => "D damaged text read",
+        })
+    }
+}
 
-pub(crate) const ENABLE: usize = 2;
+#[derive(Clone, Copy, Default)]
+struct Count {
+    asked: usize,
+    differed: usize,
+}
 
-pub(crate) const OUTPUTS: usize = 3;
+// A case, and the letter of the line there.
+#[derive(Clone, Copy)]
+struct Difference {
+    case: usize,
+    letter: u8,
+}
 
-pub(crate) const REFUSED: usize = 4;
-
-pub(crate) const TREE: usize = 5;
-
-pub(crate) const PEAK: usize = 6;
-
-pub(crate) const SHORT: usize = 7;
-
-pub(crate) const CHECK: usize = 8;
-
-pub(crate) const PRINT: usize = 9;
-
-pub(crate) const ONE_HOT: usize = 10;
-
-pub(crate) const ASSUME: usize = 11;
-
-pub(crate) const DISJOINT: usize = 12;
-
-pub(crate) const PREFIX: usize = 13;
-
-pub(crate) const DAMAGED: usize = 14;
-
-// After the kinds' two runs of counts: the cases begun, and all differences.
-const CASES: usize = 2 * KINDS;
-
-const DIFFERENCES: usize = CASES + 1;
-
-// Then the first differences: of each the case and the letter of a line.
-const FIRST: usize = DIFFERENCES + 1;
+impl fmt::Display for Difference {
+    fn fmt<W: fmt::Write>(&self, f: &mut fmt::Formatter<W>) -> fmt::Result {
+        let Difference { case, letter } = *self;
+        write!(f, "case {case} differs at {}", char::from(letter))
+    }
+}
 
 const SHOWN: usize = 20;
 
-pub(crate) const SLOTS: usize = FIRST + 2 * SHOWN;
-
-fn get(tally: &[u64], i: usize) -> u64 {
-    if i < tally.len() {
-        return tally[i];
-    }
-    0
+#[derive(Clone, Copy)]
+pub(crate) struct Tally {
+    counts: [Count; KINDS.len()],
+    cases: usize,
+    differences: usize,
+    first: [Option<Difference>; SHOWN],
 }
 
-fn put(tally: &mut [u64], i: usize, n: u64) {
-    if i < tally.len() {
-        tally[i] = n;
-    }
-}
-
-fn bump(tally: &mut [u64], i: usize) {
-    let n = get(tally, i);
-    if n < u64::MAX {
-        put(tally, i, n + 1);
-    }
-}
-
-pub(crate) fn cases(tally: &[u64]) -> u64 {
-    get(tally, CASES)
-}
-
-pub(crate) fn begin(tally: &mut [u64]) {
-    bump(tally, CASES);
-}
-
-// A difference, at a case and the letter of a line.
-pub(crate) fn differ(tally: &mut [u64], letter: u8) {
-    let k = get(tally, DIFFERENCES) as usize;
-    bump(tally, DIFFERENCES);
-    if k < SHOWN {
-        let case = cases(tally);
-        put(tally, FIRST + 2 * k, case);
-        put(tally, FIRST + 2 * k + 1, letter as u64);
-    }
-}
-
-pub(crate) fn mark(tally: &mut [u64], kind: usize, letter: u8, right: bool) {
-    if KINDS <= kind {
-        return;
-    }
-    bump(tally, kind);
-    if right {
-        return;
-    }
-    bump(tally, KINDS + kind);
-    differ(tally, letter);
-}
-
-fn line(rt: &impl Print, tally: &[u64], kind: usize, label: &str) -> io::Result<()> {
-    if KINDS <= kind {
-        return Ok(());
-    }
-    let asked = get(tally, kind);
-    let differed = get(tally, KINDS + kind);
-    println!(rt; "{label}: {asked} asked, {differed} differed")
-}
-
-fn difference(rt: &impl Print, case: u64, letter: u64) -> io::Result<()> {
-    print!(rt; "case {case} differs at ")?;
-    rt.write_all(&[(letter % 256) as u8, b'\n'])
-}
-
-fn differences(rt: &impl Print, tally: &[u64]) -> io::Result<()> {
-    let n = get(tally, DIFFERENCES) as usize;
-    for k in 0..SHOWN {
-        if k < n {
-            let case = get(tally, FIRST + 2 * k);
-            let letter = get(tally, FIRST + 2 * k + 1);
-            difference(rt, case, letter)?;
+impl Tally {
+    pub(crate) fn new() -> Tally {
+        Tally {
+            counts: [Count {
+                asked: 0,
+                differed: 0,
+            }; KINDS.len()],
+            cases: 0,
+            differences: 0,
+            first: [None; SHOWN],
         }
     }
-    Ok(())
-}
 
-pub(crate) fn write(rt: &impl Print, tally: &[u64]) -> io::Result<()> {
-    differences(rt, tally)?;
-    line(rt, tally, TEXT, "M text read and printed back")?;
-    line(rt, tally, MERGE, "J merge")?;
-    line(rt, tally, ENABLE, "E enable added, then normalized")?;
-    line(rt, tally, OUTPUTS, "O outputs")?;
-    line(rt, tally, REFUSED, "R dispatch refused")?;
-    line(rt, tally, TREE, "P dispatch into 1,024 entries")?;
-    line(rt, tally, PEAK, "P dispatch into as many as the peak")?;
-    line(rt, tally, SHORT, "P dispatch into one fewer, refused")?;
-    line(rt, tally, CHECK, "P check of the tree")?;
-    line(rt, tally, PRINT, "T tree printed")?;
-    line(rt, tally, ONE_HOT, "H one-hot emission")?;
-    line(rt, tally, ASSUME, "A assume")?;
-    line(rt, tally, DISJOINT, "I disjoint emission")?;
-    line(rt, tally, PREFIX, "L disjoint prefix")?;
-    line(rt, tally, DAMAGED, "D damaged text read")?;
-    let differences = get(tally, DIFFERENCES);
-    println!(rt; "{} cases, {differences} differences", cases(tally))
+    pub(crate) fn cases(&self) -> usize {
+        self.cases
+    }
+
+    pub(crate) fn begin(&mut self) {
+        self.cases = self.cases.saturating_add(1);
+    }
+
+    // A difference, at the letter of a line.
+    pub(crate) fn differ(&mut self, letter: u8) {
+        let case = self.cases;
+        if let Some(noted) = self.first.get_mut(self.differences) {
+            *noted = Some(Difference { case, letter });
+        }
+        self.differences = self.differences.saturating_add(1);
+    }
+
+    pub(crate) fn mark(&mut self, kind: Kind, letter: u8, right: bool) {
+        let count = &mut self.counts[kind as usize];
+        count.asked = count.asked.saturating_add(1);
+        if !right {
+            count.differed = count.differed.saturating_add(1);
+            self.differ(letter);
+        }
+    }
+
+    pub(crate) fn write(&self, rt: &impl Print) -> io::Result<()> {
+        for difference in self.first.iter().flatten() {
+            println!(rt; "{difference}")?;
+        }
+        for (kind, count) in KINDS.iter().zip(&self.counts) {
+            let Count { asked, differed } = *count;
+            println!(rt; "{kind}: {asked} asked, {differed} differed")?;
+        }
+        println!(rt; "{} cases, {} differences", self.cases, self.differences)
+    }
 }
