@@ -1,5 +1,6 @@
 -- `is_sorted_by` over a chain that gives the cells: whether they ascend. Assumes nothing.
-use Rattle.std.proofs.Common.{◌≡◌, ◌∙◌, ap, subst, sym, refl, Bool, true, false, ◌&&◌, List, [], ◌∷◌, ltb, leb, ℕ, Option, Some, None, MatchOption, inl, inr, Bor}
+use Rattle.std.proofs.Common.{arith, ◌≡◌, ◌∙◌, ap, subst, sym, refl, Bool, true, false, ◌&&◌, List, [], ◌∷◌, ltb, leb, ℕ, Option, Some, None, MatchOption, inl, inr, Bor}
+use borrow.Author.Tests.{leb-true, lt-ltb}
 use denote.Param.Members.{Mut}
 use Rattle.lists.specs.Bools.{by_bool}
 use Rattle.rules.specs.Given.{above, ascends, cells}
@@ -17,6 +18,16 @@ filter_cells (x ∷ l) =
     by_bool (is_cell x)
     (λ e. rw e (ap (λ (r : List ℕ). x ∷ r) (filter_cells l)))
     (λ e. rw e (filter_cells l))
+
+-- a cell is above 2, so that the first of them has nothing to ascend from
+pub above_start : (l : List ℕ) → above 2 (cells l) ≡ ascends (cells l)
+unfolding above ascends cells
+above_start [] = refl
+above_start (x ∷ xs) =
+    let one = above_start xs in
+    by_bool (is_cell x)
+    (λ p. let k = leb-true 3 x p in rw (p, lt-ltb 2 x (omega arith)))
+    (λ p. rw p one)
 
 module _ {S A F : Type 0} (steps : S → Option A → S → Type 0) (v : A → ℕ) (g : Mut F (Bor A × (Bor A × Unit {0})) Bool) (f : F)
     (k : (x y : A) (b : Bool) (q : F) → CalledAtTwo g f x y b q → (q ≡ f) × (b ≡ ltb (v x) (v y))) (r : Bool) where

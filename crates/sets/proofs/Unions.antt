@@ -1,7 +1,7 @@
 -- How long a set is that takes more in, what a loop from the last rule to the first has made, and the structs that hold sets.
 -- Assumes nothing.
 use borrow.Author.Tests.{le-ltb, leb-false, leb-true, lt-ltb}
-use Rattle.std.proofs.Common.{◌≡◌, ◌∙◌, ap, append_assoc, arith, drop, eqb, is_some, le_of_suc-le-suc, leb, length, length-append, List, [], ◌∷◌, ◌++◌, ltb, not-suc-le-zero, None, refl, replicate, Some, suc, sym, take, zero, ℕ, ◌+◌, ◌≤◌, ◌<◌}
+use Rattle.std.proofs.Common.{◌≡◌, ◌∙◌, ap, append_assoc, arith, drop, eqb, is_some, le_of_suc-le-suc, leb, length, length-append, List, [], ◌∷◌, ◌++◌, ltb, not-suc-le-zero, None, refl, replicate, Some, suc, sym, take, zero, ℕ, ◌+◌, ◌*◌, ◌≤◌, ◌<◌}
 use Rattle.std.proofs.lemmas.List.{append-nil, nil_from_length}
 use Rattle.std.specs.List.{push}
 use Rattle.lists.specs.Bools.{by_bool}
@@ -9,8 +9,9 @@ use Rattle.lists.specs.Vec.{length-vec, take-vec, vec, vec_none}
 use Rattle.rules.specs.Bounds.{rules_max}
 use Rattle.rules.specs.Matrix.{ins, union}
 use Rattle.sets.specs.Insert.{Inserted}
-use Rattle.sets.specs.Sets.{fitted, list_of, rules_from}
+use Rattle.sets.specs.Sets.{fitted, list_of, rules_from, wide_from}
 use Rattle.sets.specs.declared.Rules.{Rules}
+use Rattle.sets.specs.declared.Wide.{Wide}
 
 pub ins_grows : (x : ℕ) (l : List ℕ) → length l ≤ length (ins x l)
 unfolding ins
@@ -82,6 +83,13 @@ module _ (n : ℕ) (xs ys left v : List ℕ) (c : ℕ) (h : Holds n xs ys left v
 
 pub rules_path : (r s : Rules) → r.items ≡ s.items → r.count ≡ s.count → r ≡ s
 rules_path r s p q = λ i. record { items = p i; count = q i }
+
+pub wide_path : (r s : Wide) → r.items ≡ s.items → r.count ≡ s.count → r ≡ s
+wide_path r s p q = λ i. record { items = p i; count = q i }
+
+-- what a struct with 0 past its count holds
+pub wide_list : (w : Wide) (l : List ℕ) → w ≡ wide_from l → length l ≤ 2 * rules_max → take w.count w.items ≡ l
+wide_list w l e h = rw e (take-vec (2 * rules_max) 0 l h)
 
 pub list_of-rules_from : (l : List ℕ) → length l ≤ rules_max → list_of (rules_from l) ≡ l
 list_of-rules_from l h = take-vec rules_max 0 l h

@@ -1,14 +1,14 @@
 // What rows and matrices need of rule sets.
-ghost use Rattle.std.specs.Prelude.{◌<◌, ◌≤◌, length, [], ◌≡◌};
+ghost use Rattle.std.specs.Prelude.{◌<◌, ◌≤◌, length, take, [], ◌≡◌};
 ghost use Rattle.lists.specs.Lists.{all, mem};
 ghost use Rattle.rules.specs.Bounds.{rules_max};
 ghost use Rattle.rules.specs.Given.{ascends, cells};
 ghost use Rattle.rules.specs.Matrix.{set_of, union};
 ghost use Rattle.rules.specs.Nets.{is_name, is_net};
 ghost use Rattle.sets.specs.Insert.{Inserted};
-ghost use Rattle.sets.specs.Sets.{fitted, list_of, rules_from};
+ghost use Rattle.sets.specs.Sets.{fitted, list_of, rules_from, wide_from};
 
-use crate::Rules;
+use crate::{Rules, Wide};
 
 // No rules.
 pub fn none() -> Rules
@@ -92,14 +92,12 @@ pub fn insert(items: &mut [u16], count: usize, x: u16) -> usize
     count + 1
 }
 
-// The set with every rule of a list, from the last to the first: what is too many at one of them is too many at the first.
-fn extended(set: Rules, rules: &[u16]) -> Option<Rules>
-    ensures { result ≡ fitted (union rules.now (list_of set)) }
+// From the last to the first: what is too many at one of them is too many at the first.
+pub fn collect(rules: &[u16]) -> Option<Rules>
+    ensures { result ≡ fitted (set_of rules.now) }
 {
-    let used = set.slice();
     let mut items = [0; rules::RULES_MAX + 1];
-    let mut count = used.len();
-    items[..count].copy_from_slice(used);
+    let mut count = 0;
     for x in rules.iter().rev() {
         count = insert(&mut items, count, *x);
         if count > rules::RULES_MAX {
@@ -112,14 +110,34 @@ fn extended(set: Rules, rules: &[u16]) -> Option<Rules>
     Some(made)
 }
 
-pub fn united(a: Rules, b: Rules) -> Option<Rules>
-    ensures { result ≡ fitted (union (list_of a) (list_of b)) }
+// Into b, from the last rule of a to its first.
+pub fn united(a: Rules, b: Rules) -> Wide
+    ensures { result ≡ wide_from (union (list_of a) (list_of b)) }
 {
-    extended(b, a.slice())
+    let used = b.slice();
+    let mut items = [0; 2 * rules::RULES_MAX];
+    let mut count = used.len();
+    items[..count].copy_from_slice(used);
+    for x in a.slice().iter().rev() {
+        count = insert(&mut items, count, *x);
+    }
+    Wide { items, count }
 }
 
-pub fn collect(rules: &[u16]) -> Option<Rules>
-    ensures { result ≡ fitted (set_of rules.now) }
-{
-    extended(none(), rules)
+impl Wide {
+    // The set, if one has room for it.
+    pub fn fit(self) -> Option<Rules>
+        ensures { result ≡ fitted (take self.count self.items) }
+    {
+        if self.count > rules::RULES_MAX {
+            return None;
+        }
+        let used = &self.items[..self.count];
+        let mut items = [0; rules::RULES_MAX];
+        items[..used.len()].copy_from_slice(used);
+        Some(Rules {
+            items,
+            count: self.count,
+        })
+    }
 }

@@ -9,4 +9,11 @@ pub struct Rules {
     pub count: usize,
 }
 
+// What two sets have together, which may be more than one has room for.
+#[derive(Clone, Copy)]
+pub struct Wide {
+    pub items: [u16; 2 * rules::RULES_MAX],
+    pub count: usize,
+}
+
 pub mod inner;

@@ -31,7 +31,7 @@ pub fn count_rows(m: &Matrix, t: u16, child: &Matrix) -> usize
 fn crowded(named: sets::Rules, more: sets::Rules) -> bool
     ensures { result ≡ not (leb (length (union (list_of named) (list_of more))) rules_max) }
 {
-    sets::inner::united(named, more).is_none()
+    sets::inner::united(named, more).fit().is_none()
 }
 
 // Against every row of the child.
@@ -64,7 +64,7 @@ fn joined(row: rows::Row, other: rows::Row) -> rows::Row
     rows::Row {
         pattern: rows::inner::joined(0, row.masks_in_use(), other.masks_in_use()),
         len: row.len + other.len,
-        rules: sets::inner::united(row.rules, other.rules).unwrap(),
+        rules: sets::inner::united(row.rules, other.rules).fit().unwrap(),
     }
 }
 
