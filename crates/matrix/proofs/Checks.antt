@@ -50,14 +50,14 @@ module _ (m : Matrix) where
   abbrev used : List Row
   used = take m.count m.rows
 
-  pub faults_is : (ns : List ℕ) (a b c d e f : Bool) → ns ≡ take m.columns m.value → a ≡ all is_net ns → b ≡ all_low ns
-      → c ≡ all formed used → d ≡ all (shaped m.columns) used → e ≡ all named used → f ≡ all few used
-      → record { form = not (a && c); columns = ltb columns_max m.columns; rows = ltb rows_max m.count; shape = not d; net = not (b && e); rules = not f } ≡ faults_of (given m)
-  faults_is ns a b c d e f n p q h j k l =
+  pub faults_is : (ns : List ℕ) (rs : List Row) (a b c d : Bool) → ns ≡ take m.columns m.value → rs ≡ used
+      → a ≡ (all is_net ns && all formed rs) → b ≡ all (shaped m.columns) used → c ≡ (all_low ns && all named rs) → d ≡ all few used
+      → record { form = not a; columns = ltb columns_max m.columns; rows = ltb rows_max m.count; shape = not b; net = not c; rules = not d } ≡ faults_of (given m)
+  faults_is ns rs a b c d n r h j k l =
       faults_path _ _
-      (rw (p, n, h, all_viewed formed_row m))
+      (rw (h, n, r, all_viewed formed_row m))
       refl
       refl
       (ap not (j ∙ sym (all-given (λ (r : GivenRow). eqb r.len m.columns) m)))
-      (rw (q, n, k, all_viewed (λ (r : RowOf). all is_name r.rules) m))
+      (rw (k, n, r, all_viewed (λ (r : RowOf). all is_name r.rules) m))
       (ap not (l ∙ sym (all-given (λ (r : GivenRow). leb r.count rules_max) m)))

@@ -1,10 +1,11 @@
 // What is wrong with a matrix handed in: each condition by itself, total at any counts, and the number that is given.
-ghost use Rattle.std.specs.Prelude.{length, take, [], ◌∷◌, ◌≡◌, ◌≤◌};
+ghost use Rattle.std.specs.Prelude.{length, take, ◌&&◌, [], ◌∷◌, ◌≡◌, ◌≤◌};
 ghost use Rattle.lists.specs.Lists.{all};
-ghost use Rattle.matrix.specs.Faults.{either, faults_of, formed, table};
+ghost use Rattle.matrix.specs.Faults.{either, faults_of, formed, named, table};
 ghost use Rattle.matrix.specs.Mat.{given};
 ghost use Rattle.rules.specs.Bounds.{columns_max, rows_max};
 ghost use Rattle.rules.specs.Given.{matrix_table};
+ghost use Rattle.rules.specs.Nets.{is_net};
 ghost use Rattle.rules.specs.Refusals.{all_low};
 ghost use Rattle.rules.specs.Refuse.{refusal};
 ghost use Rattle.rules.specs.Refused.{number_or_0};
@@ -82,22 +83,46 @@ fn row_formed(r: &rows::Row) -> bool
         && r.rules.ascending()
 }
 
+fn rows_formed(rows: &[rows::Row]) -> bool
+    ensures { result ≡ all formed rows.now }
+{
+    rows.iter().all(row_formed)
+}
+
+fn rows_named(rows: &[rows::Row]) -> bool
+    ensures { result ≡ all named rows.now }
+{
+    rows.iter().all(|r| r.rules.named())
+}
+
+// Where a column has a number that codes no net, no row is looked at.
+fn is_formed(nets: &[u16], rows: &[rows::Row]) -> bool
+    ensures { result ≡ (all is_net nets.now && all formed rows.now) }
+{
+    sets::inner::nets(nets) && rows_formed(rows)
+}
+
+// Where a column has a cell over 9,999, no row is looked at.
+fn is_low(nets: &[u16], rows: &[rows::Row]) -> bool
+    ensures { result ≡ (all_low nets.now && all named rows.now) }
+{
+    low(nets) && rows_named(rows)
+}
+
 // All six at once, for the calls that add conditions of their own.
 pub fn faults(m: &Matrix) -> Faults
     ensures { result ≡ faults_of (given m.now) }
 {
     let nets = m.nets_in_use();
     let rows = m.rows_in_use();
-    let formed = rows.iter().all(row_formed);
     let shaped = rows.iter().all(|r| r.len == m.columns);
-    let named = rows.iter().all(|r| r.rules.named());
     let few = rows.iter().all(|r| r.rules.count <= rules::RULES_MAX);
     Faults {
-        form: !(sets::inner::nets(nets) & formed),
+        form: !is_formed(nets, rows),
         columns: m.columns > rules::COLUMNS_MAX,
         rows: m.count > rules::ROWS_MAX,
         shape: !shaped,
-        net: !(low(nets) & named),
+        net: !is_low(nets, rows),
         rules: !few,
     }
 }
