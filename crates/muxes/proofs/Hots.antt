@@ -1,11 +1,14 @@
--- Which nets the rules of a leaf name, by searching and by counting, and what a leaf of a one-hot emission gives. Assumes nothing.
+-- Which nets the rules of a leaf name, by a search and by a loop that counts to two, and what a leaf of a one-hot emission gives. Assumes nothing.
 use Prim.Native.Nat.{ℕ, zero, suc, ◌+◌, ◌≤◌, ◌<◌}
-use lib.Dec.{eqb}
-use lib.ListN.{drop, get_or, length, length-map, replicate, set, take}
-use mathlib.Core.Bool.{Bool, true, false, cond, ◌||◌}
+use borrow.Author.Tests.{eq-eqb, le-leb, ne_eqb}
+use lib.Dec.{eqb, leb}
+use lib.ListN.{drop, drop_of_length-le, get_or, length, length-map, replicate, set, take}
+use lib.Seq.{drop-cons}
+use mathlib.Core.Bool.{Bool, true, false, ◌||◌}
 use mathlib.Core.List.{List, [], ◌∷◌, ◌++◌, map}
 use mathlib.Core.Path.{◌≡◌, refl, sym, ap, ap₂, ◌∙◌}
 use mir.Val.{bool_byte}
+use native.Mathlib.Numerals.{add-one}
 use native.Mathlib.Omega.{arith}
 use Rattle.lists.specs.Lists.{mem}
 use Rattle.lists.specs.Vec.{fill, vec}
@@ -14,37 +17,64 @@ use Rattle.rules.specs.Emit.{Update, is_some, one_hot, update_for, updated}
 use Rattle.rules.specs.Nets.{cell}
 use Rattle.rules.specs.Prefix.{hits}
 use Rattle.rules.specs.Trits.{bit}
-use Rattle.std.proofs.lemmas.List.Recursion.{is_count_by}
-use Rattle.std.specs.List.{count_by, list_any}
+use Rattle.std.specs.List.{list_any}
 
 -- ---- a rule is searched
 
-pub mem_any : (n : ℕ) (rs : List ℕ) → list_any (λ x. eqb (cell x) n) rs ≡ mem n (map cell rs)
+module _ (n i : ℕ) (xs : List ℕ) (h : i < length xs) where
+  pub mem_found : cell (get_or xs i 0) ≡ n → mem n (map cell (drop i xs)) ≡ true
+  unfolding mem
+  mem_found e = rw (drop-cons xs i 0 h, eq-eqb (cell (get_or xs i 0)) n e)
+
+  pub mem_next : (cell (get_or xs i 0) ≡ n → ⊥) → mem n (map cell (drop i xs)) ≡ mem n (map cell (drop (i + 1) xs))
+  unfolding mem
+  mem_next e = rw (add-one, drop-cons xs i 0 h, ne_eqb (cell (get_or xs i 0)) n e)
+
+pub mem_none : (n i : ℕ) (xs : List ℕ) → length xs ≤ i → mem n (map cell (drop i xs)) ≡ false
 unfolding mem
-mem_any n [] = refl
-mem_any n (r ∷ rs) = ap (λ (b : Bool). eqb (cell r) n || b) (mem_any n rs)
+mem_none n i xs h = rw (drop_of_length-le xs h)
 
 pub mem_held : (n : ℕ) (xs : List ℕ) → list_any (λ x. eqb x n) xs ≡ mem n xs
 unfolding mem
 mem_held n [] = refl
 mem_held n (x ∷ xs) = ap (λ (b : Bool). eqb x n || b) (mem_held n xs)
 
--- how many positions are named, and how many rules have updates, by counting
-pub hits_count : (es rs : List ℕ) → hits es rs ≡ count_by (λ e. mem e rs) es
-unfolding hits
-hits_count es rs = is_count_by (λ (l : List ℕ). hits l rs) (λ e. mem e rs) refl (λ x xs. one (mem x rs) (hits xs rs)) es
-  where
-    one : (b : Bool) (n : ℕ) → bit b + n ≡ cond b (1 + n) n
-    one true n = refl
-    one false n = omega arith
+-- ---- how many positions are named, and how many rules have updates, from an index on
 
-pub updated_count : (us : List Update) (rs : List ℕ) → updated us (map cell rs) ≡ count_by (λ r. is_some (update_for us (cell r))) rs
+pub hits_here : (es rs : List ℕ) (i : ℕ) → i < length es → hits (drop i es) rs ≡ bit (mem (get_or es i 0) rs) + hits (drop (i + 1) es) rs
+unfolding hits
+hits_here es rs i h = rw (add-one, drop-cons es i 0 h)
+
+pub hits_none : (es rs : List ℕ) (i : ℕ) → length es ≤ i → hits (drop i es) rs ≡ 0
+unfolding hits
+hits_none es rs i h = rw (drop_of_length-le es h)
+
+pub updated_here : (us : List Update) (rs : List ℕ) (i : ℕ) → i < length rs → updated us (map cell (drop i rs)) ≡ bit (is_some (update_for us (cell (get_or rs i 0)))) + updated us (map cell (drop (i + 1) rs))
 unfolding updated
-updated_count us rs = is_count_by (λ (l : List ℕ). updated us (map cell l)) (λ r. is_some (update_for us (cell r))) refl (λ x xs. one (is_some (update_for us (cell x))) (updated us (map cell xs))) rs
-  where
-    one : (b : Bool) (n : ℕ) → bit b + n ≡ cond b (1 + n) n
-    one true n = refl
-    one false n = omega arith
+updated_here us rs i h = rw (add-one, drop-cons rs i 0 h)
+
+pub updated_none : (us : List Update) (rs : List ℕ) (i : ℕ) → length rs ≤ i → updated us (map cell (drop i rs)) ≡ 0
+unfolding updated
+updated_none us rs i h = rw (drop_of_length-le rs h)
+
+-- ---- a loop that stops at the second: n are left with this element, m after it, and b is whether it is one
+
+module _ (n m : ℕ) (b : Bool) (here : n ≡ bit b + m) where
+  pub twice_stop : b ≡ true → leb 2 (1 + n) ≡ true
+  twice_stop e = let k : bit b ≡ 1 = rw e in le-leb 2 (1 + n) (omega arith)
+
+  pub twice_once : b ≡ true → leb 2 (0 + n) ≡ leb 2 (1 + m)
+  twice_once e = let k : bit b ≡ 1 = rw e in let s : 0 + n ≡ 1 + m = omega arith in ap (leb 2) s
+
+  pub twice_more : (seen : ℕ) → b ≡ false → leb 2 (seen + n) ≡ leb 2 (seen + m)
+  twice_more seen e = let k : bit b ≡ 0 = rw e in let s : n ≡ m = omega arith in ap (λ (j : ℕ). leb 2 (seen + j)) s
+
+pub twice_start : (n : ℕ) → leb 2 (0 + n) ≡ leb 2 n
+twice_start n = let k : 0 + n ≡ n = omega arith in ap (leb 2) k
+
+pub twice_end : (seen : Bool) (n : ℕ) → n ≡ 0 → leb 2 (bit seen + n) ≡ false
+twice_end true n e = rw e
+twice_end false n e = rw e
 
 -- ---- bits with 0 after them
 

@@ -73,7 +73,13 @@ fn code(rule: u16) -> usize
 fn names(rules: &[u16], net: u16) -> bool
     ensures { result ≡ mem net (map cell rules.now) }
 {
-    rules.iter().any(|rule| code(*rule) == usize::from(net))
+    // A loop of its own, since a closure that is called for each rule slows the prefix.
+    for rule in rules {
+        if code(*rule) == usize::from(net) {
+            return true;
+        }
+    }
+    false
 }
 
 // ---- updates
@@ -283,8 +289,20 @@ pub struct Crowded<'a> {
 impl<'a> LeafTest for Crowded<'a> {
     ghost test = { λ s. crowded s.nets.now };
 
+    // Called for each leaf: inlined into the search, its loop, which is the work of the prefix, runs slower.
+    #[inline(never)]
     fn meets(&self, rules: &[u16]) -> bool {
-        2 <= self.nets.iter().filter(|net| names(rules, **net)).count()
+        // The second decides, so what comes after it is not searched.
+        let mut seen = false;
+        for net in self.nets {
+            if names(rules, *net) {
+                if seen {
+                    return true;
+                }
+                seen = true;
+            }
+        }
+        false
     }
 }
 
@@ -298,8 +316,17 @@ impl<'a> LeafTest for Overlapping<'a> {
     ghost test = { λ s. overlap (lent s.updates) };
 
     fn meets(&self, rules: &[u16]) -> bool {
-        let updates = self.updates;
-        2 <= rules.iter().filter(|rule| updates.has(**rule)).count()
+        // As above, the second decides.
+        let mut updated = false;
+        for rule in rules {
+            if self.updates.has(*rule) {
+                if updated {
+                    return true;
+                }
+                updated = true;
+            }
+        }
+        false
     }
 }
 
