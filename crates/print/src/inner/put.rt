@@ -63,8 +63,10 @@ impl<const N: usize> Text<N> {
         requires { length self.old + 1 ≤ N }
         ensures { self.new ≡ self.old ++ b ∷ [] }
     {
-        self.bytes[self.len] = b;
-        self.len += 1;
+        // The place is read once: a write of a byte leaves the compiler in doubt whether the length is still the same.
+        let at = self.len;
+        self.bytes[at] = b;
+        self.len = at + 1;
     }
 
     pub fn bytes(&mut self, src: &[u8])

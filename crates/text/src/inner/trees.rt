@@ -1,6 +1,5 @@
 // The lines of a tree. A line is put only where it fits, so that the one walk counts on a buffer without room and writes into one with it.
 ghost use Rattle.std.specs.Prelude.{length, true, ◌++◌, map, replicate, ◌≡◌, ◌+◌, ◌-◌, ◌*◌, ◌≤◌, ◌<◌};
-ghost use Rattle.lists.specs.Vec.{vec};
 ghost use Rattle.rules.specs.Bounds.{node_run, nodes_max, rules_max};
 ghost use Rattle.rules.specs.Nets.{cell, first_mux};
 ghost use Rattle.rules.specs.Print.{arm_head, printed_tree, arm as arm_of, indent as indent_of};
@@ -48,29 +47,22 @@ impl<'a> Leaf<'a> {
         }
     }
 
-    // Their nets, which are what a text has.
-    fn nets(self) -> [u16; rules::RULES_MAX]
-        ensures { result ≡ vec rules_max 0 (map cell self.entry.rules.now) }
+    // Puts their nets, which are what a text has, and ends the line.
+    fn end(self, text: &mut Text<LINE_MAX>)
+        requires { length text.old + length (rule_end (map cell self.rules.now)) ≤ line_max }
+        ensures { text.new ≡ text.old ++ rule_end (map cell self.entry.rules.now) }
     {
         let mut nets = [0; rules::RULES_MAX];
         for (i, n) in self.rules.iter().enumerate() {
             nets[i] = rules::FIRST_CELL + *n;
         }
-        nets
-    }
-
-    // Puts them, and ends the line.
-    fn end(self, text: &mut Text<LINE_MAX>)
-        requires { length text.old + length (rule_end (map cell self.rules.now)) ≤ line_max }
-        ensures { text.new ≡ text.old ++ rule_end (map cell self.entry.rules.now) }
-    {
-        let nets = self.nets();
         text.names(&nets[..self.rules.len()]);
         text.byte(b'\n');
     }
 }
 
-// The tested net and the arm's bit.
+// The tested net and the arm's bit. Inline: the line of every arm begins with it, and a call for each makes the print of a small tree an eighth dearer.
+#[inline(always)]
 fn head(text: &mut Text<LINE_MAX>, arm: Arm)
     requires { length text.old + length (arm_head 0 (cell arm.test.0) (bit_of arm.one)) ≤ line_max }
     ensures { text.new ≡ text.old ++ arm_head 0 (cell arm.test.0) (bit_of arm.one) }
