@@ -303,6 +303,8 @@ impl Said {
 }
 
 // The trits that are set are put into those lent. Nothing is looked at after a wrong argument, or after help. An argument is asked for by its place.
+// In a frame of its own, which is gone before a command begins.
+#[inline(never)]
 pub(crate) fn parse(rt: &impl Env, trits: &mut [u8]) -> Result<Asked, Wrong> {
     let mut said = Said::default();
     let mut buf = [0u8; WORD_MAX];

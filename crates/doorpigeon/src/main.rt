@@ -1,10 +1,12 @@
 // The program: a printed matrix in, and what is asked of it out. All that matters is in the libraries.
 #![tactic(auto)]
 
+ghost use Rattle.std.specs.Prelude.{◌≤◌, IfOk, length};
+
 use args::{Asked, Plan, Query, Source};
 use emit::Emitted;
-use matrix::Matrix;
-use rules::Refusal;
+use matrix::{Matrix, Outputs};
+use rules::{Net, Refusal};
 use std::env::Env;
 use std::io::Read;
 use std::rt::Files;
@@ -38,11 +40,7 @@ fn run(rt: &(impl Env + Files + Input + Print), err: &impl Print) -> Result<(), 
     match args::parse(rt, &mut trits)? {
         Asked::Nothing => Ok(show::help(err)?),
         Asked::Help => Ok(show::help(rt)?),
-        Asked::Merge { at, child, parent } => {
-            let child = matrix(rt, child)?;
-            let parent = matrix(rt, parent)?;
-            show::made(rt, parent.merge(at, child))
-        }
+        Asked::Merge { at, child, parent } => merge(rt, at, child, parent),
         Asked::Of { query, file, plan } => {
             let matrix = matrix(rt, file)?;
             Case { matrix, plan }.answer(rt, query, &trits)
@@ -50,8 +48,23 @@ fn run(rt: &(impl Env + Files + Input + Print), err: &impl Print) -> Result<(), 
     }
 }
 
+// In a frame of its own: no other command has two matrices and a third.
+#[inline(never)]
+fn merge(
+    rt: &(impl Env + Files + Input + Print),
+    at: Net,
+    child: Source,
+    parent: Source,
+) -> Result<(), Stop> {
+    let child = matrix(rt, child)?;
+    let parent = matrix(rt, parent)?;
+    show::made(rt, parent.merge(at, child))
+}
+
 // Up to where the bytes lent are full or the file ends. A read says how far the place moves on, so no iterator gives it.
-fn load<'a>(file: &mut impl Read, buf: &'a mut [u8]) -> io::Result<&'a [u8]> {
+fn load<'a>(file: &mut impl Read, buf: &'a mut [u8]) -> io::Result<&'a [u8]>
+    ensures { IfOk result (λ text. length text.now ≤ length buf.old) }
+{
     let mut n = 0;
     while n < buf.len() {
         match file.read(&mut buf[n..])? {
@@ -84,6 +97,8 @@ fn bytes<'a>(
     }
 }
 
+// In a frame of its own, which is gone once the text was read.
+#[inline(never)]
 fn matrix(rt: &(impl Env + Files + Input), source: Source) -> Result<Matrix, Stop> {
     let mut buf = [0u8; READ_MAX];
     let text = bytes(rt, source, &mut buf).map_err(|error| Stop::Unread(source, error))?;
@@ -94,6 +109,11 @@ fn matrix(rt: &(impl Env + Files + Input), source: Source) -> Result<Matrix, Sto
     Ok(read.matrix)
 }
 
+// The nets in use. A matrix that was read has no number against it, so its outputs have none.
+fn listed(outputs: &Outputs) -> &[u16] {
+    &outputs.nets[..outputs.count.min(outputs.nets.len())]
+}
+
 // A matrix that was read, and how it is to be lowered.
 #[derive(Clone, Copy)]
 struct Case {
@@ -101,20 +121,25 @@ struct Case {
     plan: Plan,
 }
 
+// What answers one command has a frame of its own: the arrays of another are no part of it.
 impl Case {
+    #[inline(never)]
     fn answer(self, rt: &impl Print, query: Query, trits: &[u8]) -> Result<(), Stop> {
-        // A matrix that was read has no number against it, so its outputs have none.
-        let outputs = self.matrix.outputs();
-        let nets = &outputs.nets[..outputs.count.min(outputs.nets.len())];
         match query {
             Query::Read => show::matrix(rt, self.matrix),
             Query::Normal => show::made(rt, self.matrix.normalize()),
             Query::Enable => show::made(rt, self.matrix.add_enable(self.plan.enable)),
             Query::Tree => self.tree(rt),
-            Query::Outputs => Ok(show::nets(rt, nets)?),
-            Query::Muxes => self.muxes(rt, nets),
-            Query::Eval => self.values(rt, nets, trits),
+            Query::Outputs => self.outputs(rt),
+            Query::Muxes => self.muxes(rt),
+            Query::Eval => self.values(rt, trits),
         }
+    }
+
+    #[inline(never)]
+    fn outputs(self, rt: &impl Print) -> Result<(), Stop> {
+        let outputs = self.matrix.outputs();
+        Ok(show::nets(rt, listed(&outputs))?)
     }
 
     // The tree in the entries that it may take, and its root.
@@ -124,6 +149,7 @@ impl Case {
         Ok(built.root)
     }
 
+    #[inline(never)]
     fn tree(self, rt: &impl Print) -> Result<(), Stop> {
         let mut store = [0u16; STORE];
         let root = self.planted(&mut store)?;
@@ -140,14 +166,20 @@ impl Case {
         Ok(emitted)
     }
 
-    fn muxes(self, rt: &impl Print, outputs: &[u16]) -> Result<(), Stop> {
+    #[inline(never)]
+    fn muxes(self, rt: &impl Print) -> Result<(), Stop> {
+        let outputs = self.matrix.outputs();
+        let outputs = listed(&outputs);
         let mut table = [0u16; TABLE];
         let emitted = self.lowered(outputs, &mut table)?;
         show::muxes(rt, &table, emitted.used)?;
         Ok(show::pairs(rt, outputs, &emitted.nets)?)
     }
 
-    fn values(self, rt: &impl Print, outputs: &[u16], trits: &[u8]) -> Result<(), Stop> {
+    #[inline(never)]
+    fn values(self, rt: &impl Print, trits: &[u8]) -> Result<(), Stop> {
+        let outputs = self.matrix.outputs();
+        let outputs = listed(&outputs);
         let mut table = [0u16; TABLE];
         let emitted = self.lowered(outputs, &mut table)?;
         show::values(rt, outputs, emitted, &table, trits)

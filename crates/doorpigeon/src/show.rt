@@ -63,6 +63,8 @@ pub(crate) fn help(to: &impl Print) -> io::Result<()> {
     to.print(HELP)
 }
 
+// In a frame of its own, as are a matrix and a tree that are shown: what they hold while they write is no part of any other.
+#[inline(never)]
 pub(crate) fn stopped(rt: &(impl Env + Print), err: &impl Print, stop: Stop) -> io::Result<()> {
     match stop {
         Stop::Wrong(wrong) => usage(rt, err, wrong),
@@ -81,10 +83,11 @@ fn word(rt: &impl Env, err: &impl Print, argument: Argument) -> io::Result<()> {
 }
 
 fn usage(rt: &impl Env, err: &impl Print, wrong: Wrong) -> io::Result<()> {
+    let Some(argument) = wrong.word() else {
+        return println!(err; "doorpigeon: {wrong}");
+    };
     err.print("doorpigeon: ")?;
-    if let Some(argument) = wrong.word() {
-        word(rt, err, argument)?;
-    }
+    word(rt, err, argument)?;
     err.println(wrong)
 }
 
@@ -135,6 +138,7 @@ fn bytes(rt: &impl Print, out: &[u8], n: usize) -> io::Result<()> {
     rt.write_all(&out[..n.min(out.len())])
 }
 
+#[inline(never)]
 pub(crate) fn matrix(rt: &impl Print, m: matrix::Matrix) -> Result<(), Stop> {
     let mut out = [0u8; text::TEXT_MAX];
     let n = text::print(m, &mut out)?;
@@ -148,6 +152,7 @@ pub(crate) fn made(rt: &impl Print, made: matrix::Made) -> Result<(), Stop> {
     matrix(rt, made.matrix)
 }
 
+#[inline(never)]
 pub(crate) fn tree(rt: &impl Print, store: &[u16], root: rules::Place) -> Result<(), Stop> {
     let mut out = [0u8; TREE_TEXT_MAX];
     let n = text::print_tree(store, root, &mut out)?;
