@@ -47,8 +47,15 @@ const NINE: Asked = Asked {
 const LEAF: Asked = Asked {
     tree: trees::LEAF,
     nets: "",
+    widths: &[0],
     bits: "",
     table: "65535*3",
+    ..ONE
+};
+
+// Of setting 1, one update after entries in use.
+const AFTER: Asked = Asked {
+    widths: &[2],
     ..ONE
 };
 
@@ -181,31 +188,39 @@ pub(crate) fn rooms(rt: &impl Print) -> io::Result<()> {
 }
 
 pub(crate) fn long_tables(rt: &impl Print) -> io::Result<()> {
-    ONE.used(8190)
+    AFTER
+        .used(8190)
         .table("0*24570 65535*6")
         .show(rt, "disjoint, 8,192 entries")?;
-    ONE.used(8191)
+    AFTER
+        .used(8191)
         .table("0*24573 65535*3")
         .show(rt, "disjoint, 8,192 entries, one short")?;
-    ONE.used(8191)
+    AFTER
+        .used(8191)
         .table("0*24573 65535*6")
         .show(rt, "disjoint, 8,193 entries, one short")
 }
 
 pub(crate) fn tables(rt: &impl Print) -> io::Result<()> {
-    ONE.used(1)
+    AFTER
+        .used(1)
         .table("3 1 2 65535*6")
         .show(rt, "disjoint, one in use, full")?;
-    ONE.used(1)
+    AFTER
+        .used(1)
         .table("3 1 2 65535*5")
         .show(rt, "disjoint, one in use, short")?;
-    ONE.used(2)
+    AFTER
+        .used(2)
         .table("0*3")
         .show(rt, "disjoint, more in use than there are")?;
-    ONE.used(usize::MAX)
+    AFTER
+        .used(usize::MAX)
         .table("0*3")
         .show(rt, "disjoint, 2^64 - 1 in use")?;
-    ONE.used(1)
+    AFTER
+        .used(1)
         .table("10003 1 0 0*6")
         .show(rt, "disjoint, select driven by itself")
 }
