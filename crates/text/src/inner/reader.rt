@@ -30,7 +30,8 @@ pub fn wrong(line: usize) -> ReadMade
     }
 }
 
-// The rows, in what follows the value line.
+// The rows, in what follows the value line. Not inline: in its caller three matrices would be cleared for the answer, on its way out, before a line is read, and a text of few lines would take a fifth more time.
+#[inline(never)]
 pub fn body(text: &[u8], head: rows::Nets) -> ReadMade
     requires { HeadFits head }
     ensures { result ≡ read_from (read_made (read_rows (take head.columns head.value) [] (lines text.now))) }
